@@ -1,8 +1,9 @@
 -- How a call comes to its refusal. A list of questions is a predicate on the number that the call is
 -- refused with, `None` where it is not refused.
 use mathlib.Core.Path.{_≡_}
-use mathlib.Core.Logic.{_⊎_}
+use mathlib.Core.Logic.{_⊎_, ⊎-elim}
 use Prim.Native.Nat.{ℕ}
+use native.Mathlib.Omega.{arith}
 use Rattle.std.specs.declared.option.Option.{Option}
 use Rattle.std.specs.declared.option.Option.the-variants.{Some, None}
 use Rattle.std.specs.declared.result.Result.{Result}
@@ -21,3 +22,7 @@ accept refused = refused ≡ None
 abbrev pub refusal : {T E : Type 0} → (E → ℕ) → Result T E → Option ℕ
 refusal number (Ok x) = None
 refusal number (Err e) = Some (number e)
+
+-- Where a call is not refused, a question that it asks is answered yes.
+pub asked-yes : {Yes No : Type 0} {n : ℕ} → Yes ⊎ (No × (_≡_ {A = Option ℕ} None (Some n))) → Yes
+asked-yes a = ⊎-elim (λ yes. yes) (λ refused. let z : _≡_ {A = ℕ} 0 1 = cc (refused .1) in absurd (omega arith)) a

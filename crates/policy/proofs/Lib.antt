@@ -1,0 +1,9 @@
+pub mod Fitting
+pub mod Meeting
+pub mod Firsts
+pub mod Goods
+pub mod Asked
+pub mod Picking
+pub mod Verdicting
+pub mod Digits
+pub mod Examples

@@ -1,0 +1,9 @@
+pub mod Fields
+pub mod Rules
+pub mod Shapes
+pub mod Letters
+pub mod Words
+pub mod Refusals
+pub mod Picks
+pub mod Verdicts
+pub mod Worked
