@@ -17,7 +17,7 @@ use Rattle.std.proofs.shelf.Tests.{and-parts, both-ways, eq-eqb, eqb-true, ltb-
 use Rattle.policy.specs.declared.reasons.Reason.{Reason}
 use Rattle.policy.specs.declared.verdict.Verdict.{Verdict}
 use Rattle.policy.specs.declared.verdict.Verdict.the-variants.{Accept, Discard, Reject}
-use Rattle.policy.specs.Letters.{Lacks, Wordly}
+use Rattle.policy.specs.Letters.{Lacks, IsWord}
 use Rattle.policy.specs.Verdicts.{reject, verdicts, verdict-code, verdict-word, verdict-of-code, verdict-of-word}
 use Rattle.policy.proofs.Picking.{picked-passes, each, each-at}
 
@@ -98,8 +98,8 @@ no-byte : (b : ℕ) (w : List ℕ) → each (λ x. not (eqb x b)) w ≡ true →
 no-byte b w e k l is =
     both-ways (eqb (getD w k 0) b) (not-true (eqb (getD w k 0) b) (each-at (λ x. not (eqb x b)) w e k l)) (eq-eqb (getD w k 0) b is)
 
-fine-wordly : (w : List ℕ) → fine w ≡ true → Wordly w
-fine-wordly w e =
+fine-proper : (w : List ℕ) → fine w ≡ true → IsWord w
+fine-proper w e =
     let a = and-parts (leb 1 (length w) && leb (length w) 16) (each (λ b. not (eqb b 44)) w && (each (λ b. not (eqb b 10)) w && each (λ b. ltb b 256) w)) e in
     let sizes = and-parts (leb 1 (length w)) (leb (length w) 16) (a .0) in
     let b = and-parts (each (λ b. not (eqb b 44)) w) (each (λ b. not (eqb b 10)) w && each (λ b. ltb b 256) w) (a .1) in (
@@ -115,8 +115,8 @@ fine-bytes w e k l =
     let b = and-parts (each (λ b. not (eqb b 44)) w) (each (λ b. not (eqb b 10)) w && each (λ b. ltb b 256) w) (a .1) in
     ltb-true (getD w k 0) 256 (each-at (λ b. ltb b 256) w (and-parts (each (λ b. not (eqb b 10)) w) (each (λ b. ltb b 256) w) (b .1) .1) k l)
 
-pub wordly : (d : Verdict) → Wordly (verdict-word d)
-wordly d = fine-wordly (verdict-word d) (lawful d .letters)
+pub proper : (d : Verdict) → IsWord (verdict-word d)
+proper d = fine-proper (verdict-word d) (lawful d .letters)
 
 pub word-of-bytes : (d : Verdict) (k : ℕ) → k < length (verdict-word d) → getD (verdict-word d) k 0 < 256
 word-of-bytes d = fine-bytes (verdict-word d) (lawful d .letters)

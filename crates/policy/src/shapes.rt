@@ -10,7 +10,7 @@ use crate::rules::Range;
 use crate::rules::Rule;
 
 // The shape that a field's ranges have.
-#[derive(Clone, Copy, PartialEq, Eq, Debug)]
+#[derive(Clone, Copy)]
 pub enum Shape {
     // All values that share their top n bits, for some n.
     Block,

@@ -1,7 +1,6 @@
 // Verdicts, the usual kind of decision.
-ghost use mathlib.Core.List.{List};
 ghost use mathlib.Core.Path.{_≡_};
-ghost use Rattle.policy.specs.Letters.{Wordly};
+ghost use Rattle.policy.specs.Letters.{IsWord};
 ghost use Rattle.policy.specs.Verdicts.{verdict-code, verdict-word, verdict-of-code, verdict-of-word};
 ghost use Rattle.policy.specs.Words.{word-bytes};
 ghost use Rattle.std.specs.Options.{Cases as BySome};
@@ -23,7 +22,7 @@ pub enum Verdict {
 
 // The word of bytes that can be one.
 fn word_of(text: &[u8]) -> Word
-    requires { ⌜ Wordly (now text) ⌝ }
+    requires { ⌜ IsWord (now text) ⌝ }
     ensures { λ r. ⌜ word-bytes r ≡ now (text .entry) ⌝ }
 {
     match Word::new(text) {
@@ -49,21 +48,13 @@ fn reject_word(reason: &Reason) -> Word
 {
     let n = reason.number();
     if n < 10 {
-        word_of(&[b'r', b'e', b'j', b'e', b'c', b't', b'-', b'0' + n])
+        let mut text = *b"reject-0";
+        text[7] += n;
+        word_of(&text)
     } else {
-        word_of(
-            &[
-                b'r',
-                b'e',
-                b'j',
-                b'e',
-                b'c',
-                b't',
-                b'-',
-                b'1',
-                b'0' + (n - 10),
-            ],
-        )
+        let mut text = *b"reject-10";
+        text[8] += n - 10;
+        word_of(&text)
     }
 }
 

@@ -2,7 +2,7 @@
 ghost use Prim.Native.Nat.{ℕ, _<_, _≤_};
 ghost use lib.ListN.{length, take};
 ghost use mathlib.Core.Path.{_≡_};
-ghost use Rattle.policy.specs.Letters.{Wordly};
+ghost use Rattle.policy.specs.Letters.{IsWord};
 ghost use Rattle.std.specs.Options.{Cases as BySome};
 
 // How many bytes a word has at most.
@@ -14,13 +14,13 @@ pub struct Word {
     bytes: [u8; LONGEST],
     len: usize,
     ghost within: { len ≤ length bytes },
-    ghost wordly: { Wordly (take len bytes) },
+    ghost proper: { IsWord (take len bytes) },
 }
 
 impl Word {
     // The word of these bytes, if they can be one.
     pub fn new(text: &[u8]) -> Option<Word>
-        ensures { λ r. ⌜ BySome r (Wordly (now (text .entry)) → ⊥) (λ w. take (w .len) (w .bytes) ≡ now (text .entry)) ⌝ }
+        ensures { λ r. ⌜ BySome r (IsWord (now (text .entry)) → ⊥) (λ w. take (w .len) (w .bytes) ≡ now (text .entry)) ⌝ }
     {
         if text.is_empty() || text.len() > LONGEST {
             return None;

@@ -83,7 +83,7 @@ pub fn worked_headers() -> [Header; 3]
 }
 
 // One rule, which accepts the addresses 0.0.0.0/1.
-pub fn half_rules() -> [Rule; 1]
+pub(crate) fn half_rules() -> [Rule; 1]
     ensures { λ r. ⌜ r ≡ half-rules ⌝ }
 {
     [Rule {
@@ -99,7 +99,7 @@ pub fn half_rules() -> [Rule; 1]
 }
 
 // A header that this rule does not meet.
-pub fn outside_header() -> Header
+pub(crate) fn outside_header() -> Header
     ensures { λ r. ⌜ r .numbers ≡ outside ⌝ }
 {
     Header {

@@ -1,7 +1,6 @@
+use borrow.Author.Needs.{needs}
 use Rattle.policy.proofs.Examples.{gap-answer}
 use Rattle.policy.proofs.worked.worked_gap.Needs as need
 
 pub returns : need.returns
-returns c =
-    gap-answer (c .half-rules .result) (c .outside-header .result .numbers) (c .first-rule .result)
-    (c .half-rules .ensures) (c .outside-header .ensures) (c .first-rule .ensures .asked)
+returns c = gap-answer _ _ (c .first-rule .result) (search needs) (search needs) (c .first-rule .ensures .asked)

@@ -6,7 +6,7 @@ use lib.ListN.{length, take, getD}
 use native.Mathlib.Omega.{arith}
 use Rattle.std.proofs.shelf.Lists.{length-set, take-all, take-more, take-more-set}
 use Rattle.std.proofs.shelf.Tests.{eqb-false}
-use Rattle.policy.specs.Letters.{Wordly}
+use Rattle.policy.specs.Letters.{IsWord}
 use Rattle.policy.proofs.words.Word.new.Needs as need
 
 copied : (bytes text : List ℕ) (i : ℕ) → i ≡ length text → take i bytes ≡ take i text → take (length text) bytes ≡ text
@@ -28,8 +28,8 @@ ghost-result c =
     let text = c .args .text .now in
     let same : take (length text) (c .loop-i .bytes) ≡ text = copied (c .loop-i .bytes) text (c .loop-i .i) (omega arith) (c .loop-i .inv .1) in
     let some : length text ≡ 0 → ⊥ = eqb-false (length text) 0 (sym (c .if-is-empty .ensures tt)) in
-    let word : Wordly text = (omega arith, omega arith, λ k l. c .loop-i .inv .2 k (omega arith), λ k l. c .loop-i .inv .3 k (omega arith)) in
-    (omega arith, (subst Wordly (sym same) word, tt))
+    let word : IsWord text = (omega arith, omega arith, λ k l. c .loop-i .inv .2 k (omega arith), λ k l. c .loop-i .inv .3 k (omega arith)) in
+    (omega arith, (subst IsWord (sym same) word, tt))
 
 pub returns : need.returns
 returns c = copied (c .loop-i .bytes) (c .args .text .now) (c .loop-i .i) (omega arith) (c .loop-i .inv .1)
