@@ -1,0 +1,12 @@
+pub mod Covers
+pub mod Unique
+pub mod Steady
+pub mod Strings
+pub mod Steps
+pub mod Ranges
+pub mod Added
+pub mod Building
+pub mod Fronts
+pub mod Skips
+pub mod Bounds
+pub mod Masking
