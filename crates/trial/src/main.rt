@@ -1,10 +1,14 @@
-// Decides the worked headers by the worked rules, then makes some calls on a card, and tells each step.
+// Decides the worked headers by the worked rules, compiles the rules, then makes some calls on a card, and
+// tells each step.
 use card::boxes::Slot;
 use card::events::Call;
 use card::events::Event;
 use card::refusals::Refusal;
 use card::runs::run_new;
 use card::states::SideState;
+use compile::calls::compile;
+use compile::places::Place;
+use policy::fields::FIELDS;
 use policy::fields::Header;
 use policy::kinds::Kind;
 use policy::plain::first_rule;
@@ -127,6 +131,23 @@ fn decide_all(rt: &LibcRuntime) -> Result<(), AnyError> {
     Ok(())
 }
 
+// Compiles the worked rules, and tells how large their chain is.
+fn compile_rules(rt: &LibcRuntime) -> Result<(), AnyError> {
+    let mut place = Place::new();
+    match compile::<Verdict>(&worked_rules(), 0, &mut place) {
+        Ok(rows) => println!(rt, "the rules compile to a chain of {rows} rows")?,
+        Err(refusal) => {
+            let number = refusal.number();
+            println!(rt, "the rules are refused with {number}")?;
+        }
+    }
+    for level in 0..FIELDS {
+        let nodes = place.node_count(level).unwrap_or(0);
+        println!(rt, "nodes of level {level}: {nodes}")?;
+    }
+    Ok(())
+}
+
 // Builds a card on a flat store, and makes some calls.
 fn run_card(rt: &LibcRuntime) -> Result<(), AnyError> {
     let mut cells = [Row { key: 0, result: 0 }; CELLS];
@@ -154,5 +175,6 @@ fn run_card(rt: &LibcRuntime) -> Result<(), AnyError> {
 
 fn main(rt: LibcRuntime) -> Result<(), AnyError> {
     decide_all(&rt)?;
+    compile_rules(&rt)?;
     run_card(&rt)
 }

@@ -1,0 +1,4 @@
+pub mod Around
+pub mod Rounds
+pub mod Probes
+pub mod Moves

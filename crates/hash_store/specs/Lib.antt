@@ -1,0 +1,4 @@
+pub mod Cells
+pub mod Helds
+pub mod Shifts
+pub mod Hashes

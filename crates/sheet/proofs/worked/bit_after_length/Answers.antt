@@ -1,0 +1,15 @@
+use mathlib.Core.Path.{refl}
+use lib.Chars.{codes}
+use Rattle.policy.specs.Verdicts.{verdict-code, verdict-of-word}
+use Rattle.sheet.specs.declared.faults.FieldFault.the-variants.{IllMade, OutOfRange}
+use Rattle.sheet.specs.declared.faults.SheetFault.the-variants.{Field}
+use Rattle.sheet.specs.Lines.{spot}
+use Rattle.sheet.specs.Sheets.{sheet-says, line-at, coded}
+use Rattle.sheet.specs.Tokens.{token}
+use Rattle.sheet.proofs.Examples.{refused}
+use Rattle.sheet.proofs.worked.bit_after_length.Needs as need
+
+pub returns : need.returns
+unfolding token
+returns c = refused (sheet-says (line-at (coded verdict-of-word verdict-code)) (codes "10.0.0.1/8,*,*,*,*,accept\n") 1)
+    (Field (OutOfRange 0 (spot 1 1))) (c .read-rules .result) (c .read-rules .ensures .answers .stops) refl
