@@ -16,7 +16,10 @@ fn block(value: u32, length: u32) -> Range {
     let length = length.clamp(1, 32);
     let mask = (1u32 << (32 - length)) - 1;
     let low = value & !mask;
-    Range { low, high: low | mask }
+    Range {
+        low,
+        high: low | mask,
+    }
 }
 
 // Rules within one another in both addresses and both ports, the narrowest first.
@@ -26,8 +29,14 @@ pub fn nested(rules: &mut [Rule]) {
         let wide = i.min(63);
         rule.ranges[0] = block(0, 32 - wide / 2);
         rule.ranges[1] = block(0, 32 - wide / 2);
-        rule.ranges[2] = Range { low: 63 - wide, high: 65472 + wide };
-        rule.ranges[3] = Range { low: 63 - wide, high: 65472 + wide };
+        rule.ranges[2] = Range {
+            low: 63 - wide,
+            high: 65472 + wide,
+        };
+        rule.ranges[3] = Range {
+            low: 63 - wide,
+            high: 65472 + wide,
+        };
         rule.code = 16 + (wide % 16) as u16;
         i = i.wrapping_add(1);
     }
@@ -38,7 +47,10 @@ pub fn one_field_each(rules: &mut [Rule]) {
     let mut i = 0u32;
     for rule in rules.iter_mut() {
         let at = i & 15;
-        let band = Range { low: at * 4096, high: at * 4096 + 2047 };
+        let band = Range {
+            low: at * 4096,
+            high: at * 4096 + 2047,
+        };
         match i / 16 {
             0 => rule.ranges[0] = block(at << 28, 5),
             1 => rule.ranges[1] = block(at << 28, 5),
@@ -46,7 +58,10 @@ pub fn one_field_each(rules: &mut [Rule]) {
             _ => rule.ranges[3] = band,
         }
         let protocol = i & 127;
-        rule.ranges[4] = Range { low: protocol, high: protocol };
+        rule.ranges[4] = Range {
+            low: protocol,
+            high: protocol,
+        };
         rule.code = 0;
         i = i.wrapping_add(1);
     }
@@ -59,8 +74,14 @@ pub fn sliding(rules: &mut [Rule]) {
         let at = i & 63;
         rule.ranges[0] = block(at << 26, 6 - at % 4);
         rule.ranges[1] = block(at << 26, 6 - at % 4);
-        rule.ranges[2] = Range { low: at * 512, high: at * 512 + 8191 };
-        rule.ranges[3] = Range { low: at * 512, high: at * 512 + 8191 };
+        rule.ranges[2] = Range {
+            low: at * 512,
+            high: at * 512 + 8191,
+        };
+        rule.ranges[3] = Range {
+            low: at * 512,
+            high: at * 512 + 8191,
+        };
         rule.code = 0;
         i = i.wrapping_add(1);
     }
@@ -73,9 +94,15 @@ pub fn realistic(rules: &mut [Rule]) {
         let at = i & 63;
         let port = 5000 + at * 2;
         rule.ranges[1] = block(0x0A00_0000 + ((at / 8) << 16), 16);
-        rule.ranges[3] = Range { low: port, high: port };
+        rule.ranges[3] = Range {
+            low: port,
+            high: port,
+        };
         let protocol = if at % 2 == 0 { 17 } else { 6 };
-        rule.ranges[4] = Range { low: protocol, high: protocol };
+        rule.ranges[4] = Range {
+            low: protocol,
+            high: protocol,
+        };
         rule.code = (at % 2) as u16;
         i = i.wrapping_add(1);
     }

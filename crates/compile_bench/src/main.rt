@@ -18,7 +18,13 @@ use std::error::AnyError;
 use std::time::Instant;
 
 // Compiles a list, and tells its name and what came of it.
-fn tell(rt: &LibcRuntime, name: &str, rules: &[Rule], place: &mut Place, timed: bool) -> Result<(), AnyError> {
+fn tell(
+    rt: &LibcRuntime,
+    name: &str,
+    rules: &[Rule],
+    place: &mut Place,
+    timed: bool,
+) -> Result<(), AnyError> {
     let start = Instant::now(rt)?;
     let result = compile::<Verdict>(rules, 0, place);
     let spent = start.elapsed(rt)?;

@@ -16,7 +16,7 @@ use Rattle.std.specs.declared.option.Option.{Option}
 use Rattle.std.specs.declared.option.Option.the-variants.{Some, None}
 use Rattle.policy.specs.declared.rules.Range.{Range}
 use Rattle.sheet.specs.declared.tokens.Mark.the-variants.{Dot, Slash, Dash, Star, Comma, LineFeed}
-use Rattle.sheet.specs.declared.faults.Spot.{Spot}
+use Rattle.faults.specs.declared.Spot.{Spot}
 use Rattle.sheet.specs.Tokens.{token, number, mark}
 use Rattle.sheet.specs.Forms.{Want, digits, the, Read, got, noted, walk, address-form, address-rest}
 use Rattle.sheet.specs.Readings.{span, address-low, is-block, address-at, address-of, meant, ranged}

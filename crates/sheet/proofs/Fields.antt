@@ -3,8 +3,8 @@ use mathlib.Core.List.{List, [], _∷_}
 use mathlib.Core.Path.{_≡_, refl, sym, ap, _∙_}
 use Prim.Native.Nat.{ℕ}
 use Rattle.policy.specs.declared.rules.Range.{Range}
-use Rattle.sheet.specs.declared.faults.Spot.{Spot}
-use Rattle.sheet.specs.declared.faults.FieldFault.{FieldFault}
+use Rattle.faults.specs.declared.Spot.{Spot}
+use Rattle.faults.specs.declared.FieldFault.{FieldFault}
 use Rattle.sheet.specs.Forms.{Read, got, fault}
 use Rattle.sheet.specs.Lines.{spot, andThen}
 

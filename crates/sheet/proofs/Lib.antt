@@ -5,7 +5,6 @@ pub mod Blocks
 pub mod Fields
 pub mod Decisions
 pub mod Turns
-pub mod Examples
 pub mod Numbers
 pub mod Ports
 pub mod Sound
@@ -16,3 +15,6 @@ pub mod Protocols
 pub mod Unfed
 pub mod LinesRead
 pub mod MeansRead
+pub mod WrongFields
+pub mod Refused
+pub mod HeadersRead

@@ -10,7 +10,7 @@ use Rattle.std.specs.declared.option.Option.{Option}
 use Rattle.std.specs.declared.option.Option.the-variants.{Some, None}
 use Rattle.policy.specs.declared.rules.Range.{Range}
 use Rattle.policy.specs.declared.rules.Rule.{Rule}
-use Rattle.sheet.specs.declared.faults.Spot.{Spot}
+use Rattle.faults.specs.declared.Spot.{Spot}
 use Rattle.sheet.specs.Tokens.{run}
 use Rattle.sheet.specs.Forms.{Read, got, fault}
 use Rattle.sheet.specs.Readings.{address-at, port-at, protocol-at}
@@ -25,13 +25,13 @@ use Rattle.sheet.proofs.Protocols.{protocol-found, protocol-only}
 use Rattle.sheet.proofs.Unfed.{Unfed, unfed-append, unfed-port, unfed-address, unfed-protocol, run-free, split-feed}
 
 -- What follows a field and its comma.
-after-field : (s field rest : List ℕ) (at : ℕ) → drop at s ≡ field ++ (44 ∷ rest) → drop (at + (length field + 1)) s ≡ rest
+pub after-field : (s field rest : List ℕ) (at : ℕ) → drop at s ≡ field ++ (44 ∷ rest) → drop (at + (length field + 1)) s ≡ rest
 after-field s field rest at e =
     let f = past s (44 ∷ []) rest (at + length field) (past s field (44 ∷ rest) at e) in
     let n : at + (length field + 1) ≡ at + length field + 1 = omega arith in
     ap (λ (k : ℕ). drop k s) n ∙ f
 
-step : {A B : Type 0} (x : Read A) (a : A) (to : ℕ) (f : A → ℕ → Read B) (y : Read B) → x ≡ got a to → f a to ≡ y → andThen x f ≡ y
+pub step : {A B : Type 0} (x : Read A) (a : A) (to : ℕ) (f : A → ℕ → Read B) (y : Read B) → x ≡ got a to → f a to ≡ y → andThen x f ≡ y
 step x a to f y e h = ap (λ (r : Read _). andThen r f) e ∙ h
 
 -- The bytes of a line from each field on, with what follows the line.
@@ -121,7 +121,7 @@ module _ (code : List ℕ → Option ℕ) (s rest : List ℕ) (l at : ℕ) where
       ∙ ap (decided (rule .ranges) (spot l 6) a6 (at + length text)) (ap code w ∙ L .word-means)
 
 -- What was read before and after a step.
-then-got : {A B : Type 0} (x : Read A) (f : A → ℕ → Read B) (b : B) (to : ℕ) → andThen x f ≡ got b to → (a : A) × ((m : ℕ) × ((x ≡ got a m) × (f a m ≡ got b to)))
+pub then-got : {A B : Type 0} (x : Read A) (f : A → ℕ → Read B) (b : B) (to : ℕ) → andThen x f ≡ got b to → (a : A) × ((m : ℕ) × ((x ≡ got a m) × (f a m ≡ got b to)))
 then-got (got a m) f b to e = (a, (m, (refl, e)))
 then-got (fault g) f b to e = let z : _≡_ {A = ℕ} 0 1 = cc in absurd (omega arith)
 
@@ -148,24 +148,29 @@ with-good code s l (got r at) rule to e =
 feed-after : (s field : List ℕ) (at m : ℕ) → drop at s ≡ field ++ (44 ∷ drop m s) → m ≡ at + (length field + 1) → Unfed field → at + run not-feed (drop at s) ≡ m + run not-feed (drop m s)
 feed-after s field at m d e free = let q = ap (run not-feed) d ∙ run-free field (44 ∷ drop m s) free in omega (arith, q)
 
-pub record LineRead (code : List ℕ → Option ℕ) (s : List ℕ) (at to : ℕ) (rule : Rule) : Type 0 where
+pub record LineRead (code : List ℕ → Option ℕ) (s : List ℕ) (l at to : ℕ) (rule : Rule) : Type 0 where
   pub text : List ℕ
   pub means : Line code text rule
+  pub from : ℕ
+  pub read : ranges-at s l at ≡ got (rule .ranges) from
+  pub word-is : means .parts .word ≡ up-to-feed s from
+  pub after : to ≡ from + suc (run not-feed (drop from s))
   pub bytes : drop at s ≡ text ++ drop to s
   pub end : to ≡ at + length text
 
-got-same : {A : Type 0} (x y : A) (m n : ℕ) → got x m ≡ got y n → (x ≡ y) × (m ≡ n)
+pub got-same : {A : Type 0} (x y : A) (m n : ℕ) → got x m ≡ got y n → (x ≡ y) × (m ≡ n)
 got-same x y m n e = ((cc), (cc))
 
 -- The fields that were read one after another make the line.
 module _
-    (code : List ℕ → Option ℕ) (s : List ℕ) (at m2 m3 m4 m5 m6 to : ℕ) (t1 t2 t3 t4 t5 : List ℕ) (x1 x2 x3 x4 x5 : Range) (rule : Rule)
+    (code : List ℕ → Option ℕ) (s : List ℕ) (l at m2 m3 m4 m5 m6 to : ℕ) (t1 t2 t3 t4 t5 : List ℕ) (x1 x2 x3 x4 x5 : Range) (rule : Rule)
     (d1 : drop at s ≡ t1 ++ (44 ∷ drop m2 s)) (d2 : drop m2 s ≡ t2 ++ (44 ∷ drop m3 s)) (d3 : drop m3 s ≡ t3 ++ (44 ∷ drop m4 s))
     (d4 : drop m4 s ≡ t4 ++ (44 ∷ drop m5 s)) (d5 : drop m5 s ≡ t5 ++ (44 ∷ drop m6 s))
     (e1 : m2 ≡ at + (length t1 + 1)) (e2 : m3 ≡ m2 + (length t2 + 1)) (e3 : m4 ≡ m3 + (length t3 + 1)) (e4 : m5 ≡ m4 + (length t4 + 1)) (e5 : m6 ≡ m5 + (length t5 + 1))
     (h1 : Address t1 x1) (h2 : Address t2 x2) (h3 : Port t3 x3) (h4 : Port t4 x4) (h5 : Protocol t5 x5)
     (all : rule .ranges ≡ x1 ∷ x2 ∷ x3 ∷ x4 ∷ x5 ∷ []) (coded : code (up-to-feed s m6) ≡ Some (rule .code))
-    (end : to ≡ min (m6 + run not-feed (drop m6 s) + 1) (length s)) (fed : at + run not-feed (drop at s) < length s) where
+    (end : to ≡ min (m6 + run not-feed (drop m6 s) + 1) (length s)) (fed : at + run not-feed (drop at s) < length s)
+    (read : ranges-at s l at ≡ got (rule .ranges) m6) where
   near : m6 + run not-feed (drop m6 s) < length s
   near =
       let f1 = feed-after s t1 at m2 d1 e1 (unfed-address t1 x1 h1) in
@@ -214,7 +219,7 @@ module _
       let t = to-is in
       omega (arith, sizes, f, g, n, t, e1, e2, e3, e4, e5)
 
-  pub line-whole : LineRead code s at to rule
+  pub line-whole : LineRead code s l at to rule
   line-whole =
       record {
         text = joined whole;
@@ -230,12 +235,16 @@ module _
               ranges-are = all;
               word-means = coded;
             };
+        from = m6;
+        read = read;
+        word-is = refl;
+        after = to-is;
         bytes = bytes-are;
         end = end-is;
       }
 
 module _ (code : List ℕ → Option ℕ) (s : List ℕ) (l at : ℕ) where
-  pub line-only : (rule : Rule) (to : ℕ) → line-at code s l at ≡ good rule to → at + run not-feed (drop at s) < length s → LineRead code s at to rule
+  pub line-only : (rule : Rule) (to : ℕ) → line-at code s l at ≡ good rule to → at + run not-feed (drop at s) < length s → LineRead code s l at to rule
   line-only rule to e fed =
       let q = with-good code s l (ranges-at s l at) rule to e in
       let r1 = then-got (address-at s (spot l 1) at) _ (rule .ranges) (q .from) (q .ranges) in
@@ -249,8 +258,9 @@ module _ (code : List ℕ → Option ℕ) (s : List ℕ) (l at : ℕ) where
       let t4 = port-only s (spot l 4) (r3 .1 .0) (r4 .1 .0) (r4 .0) (r4 .1 .1 .0) in
       let t5 = protocol-only s (spot l 5) (r4 .1 .0) (r5 .1 .0) (r5 .0) (r5 .1 .1 .0) in
       let same = got-same (r1 .0 ∷ r2 .0 ∷ r3 .0 ∷ r4 .0 ∷ r5 .0 ∷ []) (rule .ranges) (r5 .1 .0) (q .from) (r5 .1 .1 .1) in
-      line-whole code s at (r1 .1 .0) (r2 .1 .0) (r3 .1 .0) (r4 .1 .0) (r5 .1 .0) to (t1 .0) (t2 .0) (t3 .0) (t4 .0) (t5 .0) (r1 .0) (r2 .0) (r3 .0) (r4 .0) (r5 .0) rule
+      line-whole code s l at (r1 .1 .0) (r2 .1 .0) (r3 .1 .0) (r4 .1 .0) (r5 .1 .0) to (t1 .0) (t2 .0) (t3 .0) (t4 .0) (t5 .0) (r1 .0) (r2 .0) (r3 .0) (r4 .0) (r5 .0) rule
       (t1 .1 .1) (t2 .1 .1) (t3 .1 .1) (t4 .1 .1) (t5 .1 .1) (t1 .1 .2) (t2 .1 .2) (t3 .1 .2) (t4 .1 .2) (t5 .1 .2)
       (t1 .1 .0) (t2 .1 .0) (t3 .1 .0) (t4 .1 .0) (t5 .1 .0) (sym (same .0))
       (ap (λ (m : ℕ). code (up-to-feed s m)) (same .1) ∙ q .word)
       (q .end ∙ ap (λ (m : ℕ). min (m + run not-feed (drop m s) + 1) (length s)) (sym (same .1))) fed
+      (q .ranges ∙ ap (got (rule .ranges)) (sym (same .1)))

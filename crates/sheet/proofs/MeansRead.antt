@@ -14,8 +14,8 @@ use Rattle.std.specs.declared.result.Result.{Result}
 use Rattle.std.specs.declared.result.Result.the-variants.{Ok, Err}
 use Rattle.policy.specs.declared.rules.Rule.{Rule}
 use Rattle.policy.specs.Letters.{IsWord}
-use Rattle.sheet.specs.declared.faults.SheetFault.{SheetFault}
-use Rattle.sheet.specs.declared.faults.SheetFault.the-variants.{TooLong, NoPlace, NoLineFeed}
+use Rattle.faults.specs.declared.SheetFault.{SheetFault}
+use Rattle.faults.specs.declared.SheetFault.the-variants.{TooLong, NoPlace, NoLineFeed}
 use Rattle.sheet.specs.Tokens.{run}
 use Rattle.sheet.specs.Sheets.{not-feed, Lined, good, bad, line-at, Answer, Answers, stopped, before, next-line, lines-at, sheet-says, coded, number-of}
 use Rattle.sheet.specs.Meaning.{Parts, joined, Line, Means, nothing, line, One-meaning, Settles}
@@ -28,8 +28,8 @@ use Rattle.sheet.proofs.Unfed.{Unfed, unfed-lacks, run-before}
 abbrev pub Worded : (List ℕ → Option ℕ) → Type 0
 Worded code = (w : List ℕ) (c : ℕ) → code w ≡ Some c → Unfed w
 
-abbrev pub is-clean : List Rule → Answer Rule
-is-clean rules = record { entries = rules; stop = None }
+abbrev pub is-clean : {A : Type 0} → List A → Answer A
+is-clean xs = record { entries = xs; stop = None }
 
 -- A line has a line feed.
 line-fed : (code : List ℕ → Option ℕ) (s text rest : List ℕ) (rule : Rule) (at : ℕ) → Line code text rule → drop at s ≡ text ++ rest → at + run not-feed (drop at s) < length s
@@ -43,33 +43,45 @@ line-fed code s text rest rule at L d =
     let f = length-drop at s in
     omega (arith, r, n, f)
 
-module _ (code : List ℕ → Option ℕ) (worded : Worded code) (s : List ℕ) where
-  pub lines-found : (bytes : List ℕ) (rules : List Rule) → Means code bytes rules → (m l at : ℕ) → drop at s ≡ bytes → length rules ≤ m → lines-at (line-at code) s m l at ≡ is-clean rules
-  lines-found bytes rules nothing m l at d few =
-      at-end (line-at code) s l at m (let n = ap length d in let f = length-drop at s in omega (arith, n, f))
-  lines-found bytes rules (line {text} {rest} {rule} {rules = others} L more) zero l at d few = absurd (omega arith)
-  lines-found bytes rules (line {text} {rest} {rule} {rules = others} L more) (suc m) l at d few =
-      let fed = line-fed code s text rest rule at L d in
-      let inside : at < length s = omega arith in
-      on-line (line-at code) s l at (suc m) m refl inside fed
-      ∙ ap (next-line (λ to. lines-at (line-at code) s m (l + 1) to)) (line-found code s rest l at text rule L (worded (L .parts .word) (rule .code) (L .word-means)) d (omega arith))
-      ∙ ap (before rule) (lines-found rest others more m (l + 1) (at + length text) (past s text rest at d) (omega arith))
+-- A line that a relation says the meaning of is found, and has its line feed; whatever is read is a line.
+pub record Found {A : Type 0} (Line : List ℕ → A → Type 0) (reads : List ℕ → ℕ → ℕ → Lined A) : Type 0 where
+  pub fed : (s text rest : List ℕ) (x : A) (at : ℕ) → Line text x → drop at s ≡ text ++ rest → at + run not-feed (drop at s) < length s
+  pub found : (s text rest : List ℕ) (x : A) (l at : ℕ) → Line text x → drop at s ≡ text ++ rest → at ≤ length s → reads s l at ≡ good x (at + length text)
 
-  pub single-meaning : One-meaning code s
+pub record Taken {A : Type 0} (Line : List ℕ → A → Type 0) (s : List ℕ) (at to : ℕ) (x : A) : Type 0 where
+  pub text : List ℕ
+  pub means : Line text x
+  pub bytes : drop at s ≡ text ++ drop to s
+
+abbrev pub Only : {A : Type 0} → (List ℕ → A → Type 0) → (List ℕ → ℕ → ℕ → Lined A) → Type 0
+Only {A} Line reads = (s : List ℕ) (l at to : ℕ) (x : A) → reads s l at ≡ good x to → at + run not-feed (drop at s) < length s → Taken Line s at to x
+
+module _ {A : Type 0} (Line : List ℕ → A → Type 0) (reads : List ℕ → ℕ → ℕ → Lined A) (all : Found Line reads) (s : List ℕ) where
+  pub lines-found : (bytes : List ℕ) (xs : List A) → Means Line bytes xs → (m l at : ℕ) → drop at s ≡ bytes → length xs ≤ m → lines-at reads s m l at ≡ is-clean xs
+  lines-found bytes xs nothing m l at d few = at-end reads s l at m (let n = ap length d in let f = length-drop at s in omega (arith, n, f))
+  lines-found bytes xs (line {text} {rest} {x} {xs = others} L more) zero l at d few = absurd (omega arith)
+  lines-found bytes xs (line {text} {rest} {x} {xs = others} L more) (suc m) l at d few =
+      let fed = all .fed s text rest x at L d in
+      let inside : at < length s = omega arith in
+      on-line reads s l at (suc m) m refl inside fed
+      ∙ ap (next-line (λ to. lines-at reads s m (l + 1) to)) (all .found s text rest x l at L d (omega arith))
+      ∙ ap (before x) (lines-found rest others more m (l + 1) (at + length text) (past s text rest at d) (omega arith))
+
+  pub single-meaning : One-meaning Line s
   single-meaning xs ys a b =
       let m : ℕ = length xs + length ys in
       let p = lines-found s xs a m 1 0 refl (omega arith) in
       let q = lines-found s ys b m 1 0 refl (omega arith) in
-      ap (λ (x : Answer Rule). x .entries) (sym p ∙ q)
+      ap (λ (x : Answer A). x .entries) (sym p ∙ q)
 
--- A sheet that is read to its end means its rules.
-abbrev Meant : (List ℕ → Option ℕ) → List ℕ → ℕ → ℕ → Answer Rule → Type 0
-Meant code s m at a = a .stop ≡ None → Means code (drop at s) (a .entries)
-
-never : {A : Type 0} (f : SheetFault) → Some f ≡ None → A
+pub never : {A : Type 0} (f : SheetFault) → Some f ≡ None → A
 never f e = let z : _≡_ {A = ℕ} 0 1 = cc in absurd (omega arith)
 
-module _ (code : List ℕ → Option ℕ) (s : List ℕ) where
+-- A sheet that is read to its end means its entries.
+module _ {A : Type 0} (Line : List ℕ → A → Type 0) (reads : List ℕ → ℕ → ℕ → Lined A) (only : Only Line reads) (s : List ℕ) where
+  abbrev Meant : ℕ → Answer A → Type 0
+  Meant at a = a .stop ≡ None → Means Line (drop at s) (a .entries)
+
   past-end : (at : ℕ) → length s ≤ at → drop at s ≡ []
   past-end at h = none (drop at s) (omega (arith, length-drop at s))
     where
@@ -77,50 +89,61 @@ module _ (code : List ℕ → Option ℕ) (s : List ℕ) where
       none [] h = refl
       none (x ∷ xs) h = absurd (omega arith)
 
-  end-meant : (m l at : ℕ) → length s ≤ at → Meant code s m at (lines-at (line-at code) s m l at)
-  end-meant m l at h =
-      subst (Meant code s m at) (sym (at-end (line-at code) s l at m h)) (λ e. subst (λ (t : List ℕ). Means code t []) (sym (past-end at h)) nothing)
+  end-meant : (m l at : ℕ) → length s ≤ at → Meant at (lines-at reads s m l at)
+  end-meant m l at h = subst (Meant at) (sym (at-end reads s l at m h)) (λ e. subst (λ (t : List ℕ). Means Line t []) (sym (past-end at h)) nothing)
 
-  line-meant : (m l at : ℕ) (x : Lined Rule) → line-at code s l at ≡ x → at + run not-feed (drop at s) < length s →
-      ((to : ℕ) → Meant code s m to (lines-at (line-at code) s m (l + 1) to)) → Meant code s (suc m) at (next-line (λ to. lines-at (line-at code) s m (l + 1) to) x)
+  line-meant : (m l at : ℕ) (x : Lined A) → reads s l at ≡ x → at + run not-feed (drop at s) < length s →
+      ((to : ℕ) → Meant to (lines-at reads s m (l + 1) to)) → Meant at (next-line (λ to. lines-at reads s m (l + 1) to) x)
   line-meant m l at (bad f) e fed rec h = never f h
-  line-meant m l at (good rule to) e fed rec h =
-      let q = line-only code s l at rule to e fed in
-      subst (λ (t : List ℕ). Means code t (rule ∷ lines-at (line-at code) s m (l + 1) to .entries)) (sym (q .bytes)) (line (q .means) (rec to h))
+  line-meant m l at (good x to) e fed rec h =
+      let q = only s l at to x e fed in
+      subst (λ (t : List ℕ). Means Line t (x ∷ lines-at reads s m (l + 1) to .entries)) (sym (q .bytes)) (line (q .means) (rec to h))
 
-  pub lines-meant : (m l at : ℕ) → Meant code s m at (lines-at (line-at code) s m l at)
+  pub lines-meant : (m l at : ℕ) → Meant at (lines-at reads s m l at)
   lines-meant zero l at =
       elim (cases-lt at (length s)) [
-        | inl h ↦ subst (Meant code s 0 at) (sym (no-place (line-at code) s l at 0 refl h)) (λ e. never (NoPlace at l) e)
+        | inl h ↦ subst (Meant at) (sym (no-place reads s l at 0 refl h)) (λ e. never (NoPlace at l) e)
         | inr h ↦ end-meant 0 l at h
       ]
   lines-meant (suc m) l at =
       elim (cases-lt at (length s)) [
         | inl h ↦
             elim (cases-lt (at + run not-feed (drop at s)) (length s)) [
-              | inl fed ↦ subst (Meant code s (suc m) at) (sym (on-line (line-at code) s l at (suc m) m refl h fed)) (line-meant m l at (line-at code s l at) refl fed (λ to. lines-meant m (l + 1) to))
-              | inr f ↦ subst (Meant code s (suc m) at) (sym (no-feed (line-at code) s l at (suc m) m refl h f)) (λ e. never (NoLineFeed (length s) l) e)
+              | inl fed ↦ subst (Meant at) (sym (on-line reads s l at (suc m) m refl h fed)) (line-meant m l at (reads s l at) refl fed (λ to. lines-meant m (l + 1) to))
+              | inr f ↦ subst (Meant at) (sym (no-feed reads s l at (suc m) m refl h f)) (λ e. never (NoLineFeed (length s) l) e)
             ]
         | inr h ↦ end-meant (suc m) l at h
       ]
 
-  pub sheet-meant : (n : ℕ) → Meant code s n 0 (sheet-says (line-at code) s n)
+  pub sheet-meant : (n : ℕ) → Meant 0 (sheet-says reads s n)
   sheet-meant n =
       elim (cases-lt 8192 (length s)) [
-        | inl h ↦ subst (Meant code s n 0) (sym (ap (λ (b : Bool). cond b (lines-at (line-at code) s (min n 64) 1 0) (stopped TooLong)) (lt-leb (length s) 8192 h))) (λ e. never TooLong e)
-        | inr h ↦ subst (Meant code s n 0) (sym (says (line-at code) s n h)) (lines-meant (min n 64) 1 0)
+        | inl h ↦ subst (Meant 0) (sym (ap (λ (b : Bool). cond b (lines-at reads s (min n 64) 1 0) (stopped TooLong)) (lt-leb (length s) 8192 h))) (λ e. never TooLong e)
+        | inr h ↦ subst (Meant 0) (sym (says reads s n h)) (lines-meant (min n 64) 1 0)
       ]
 
 -- What the answer of a reading settles.
-pub settled : (code : List ℕ → Option ℕ) (s : List ℕ) (was is : List Rule) (r : Result ℕ SheetFault) → Worded code → Answers (sheet-says (line-at code) s (length was)) was is r → Settles code s was is r
-settled code s was is (Ok n) worded a =
-    let rules : List Rule = sheet-says (line-at code) s (length was) .entries in
-    let q : take n is ≡ rules = ap (take n) (a .places) ∙ take-at rules (drop (length rules) was) n (sym (a .stops .1)) in
-    subst (Means code s) (sym q) (sheet-meant code s (length was) (a .stops .0))
-settled code s was is (Err e) worded a =
-    λ rules means short few fits.
-    let p = says (line-at code) s (length was) short ∙ lines-found code worded s s rules means (min (length was) 64) 1 0 refl (omega arith) in
-    never e (sym (a .stops) ∙ ap (λ (x : Answer Rule). x .stop) p)
+pub settled : {A : Type 0} (Line : List ℕ → A → Type 0) (reads : List ℕ → ℕ → ℕ → Lined A) (s : List ℕ) (was is : List A) (r : Result ℕ SheetFault) → Found Line reads → Only Line reads →
+    Answers (sheet-says reads s (length was)) was is r → Settles Line s was is r
+settled {A} Line reads s was is (Ok n) all only a =
+    let xs : List A = sheet-says reads s (length was) .entries in
+    let q : take n is ≡ xs = ap (take n) (a .places) ∙ take-at xs (drop (length xs) was) n (sym (a .stops .1)) in
+    subst (Means Line s) (sym q) (sheet-meant Line reads only s (length was) (a .stops .0))
+settled {A} Line reads s was is (Err e) all only a =
+    λ xs means short few fits.
+    let p = says reads s (length was) short ∙ lines-found Line reads all s s xs means (min (length was) 64) 1 0 refl (omega arith) in
+    never e (sym (a .stops) ∙ ap (λ (x : Answer A). x .stop) p)
+
+-- Lines of rules.
+pub rules-found : (code : List ℕ → Option ℕ) → Worded code → Found (Line code) (line-at code)
+rules-found code worded =
+    record {
+      fed = λ s text rest x at L d. line-fed code s text rest x at L d;
+      found = λ s text rest x l at L d h. line-found code s rest l at text x L (worded (L .parts .word) (x .code) (L .word-means)) d h;
+    }
+
+pub rules-only : (code : List ℕ → Option ℕ) → Only (Line code) (line-at code)
+rules-only code s l at to x e fed = let q = line-only code s l at x to e fed in record { text = q .text; means = q .means; bytes = q .bytes }
 
 -- The words of a kind that keeps its law are without a line feed.
 pub kind-worded : {D : Type 0} (named : List ℕ → Option D) (numbered : D → ℕ) (wordOf : D → List ℕ) →

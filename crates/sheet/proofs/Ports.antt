@@ -16,7 +16,7 @@ use Rattle.std.specs.declared.option.Option.the-variants.{Some, None}
 use Rattle.sheet.specs.declared.tokens.Mark.{Mark}
 use Rattle.sheet.specs.declared.tokens.Mark.the-variants.{Dot, Slash, Dash, Star, Comma, LineFeed}
 use Rattle.policy.specs.declared.rules.Range.{Range}
-use Rattle.sheet.specs.declared.faults.Spot.{Spot}
+use Rattle.faults.specs.declared.Spot.{Spot}
 use Rattle.sheet.specs.Tokens.{token, Tok, number, word, mark, size}
 use Rattle.sheet.specs.Forms.{Want, digits, the, Read, got, fault, noted, walk, port-form, port-rest, turn}
 use Rattle.sheet.specs.Readings.{span, port-at, port-of, meant, ranged}
@@ -29,7 +29,7 @@ abbrev pub Found : (List ℕ → Spot → ℕ → Read Range) → (List ℕ → 
 Found reads Means =
     (s text rest : List ℕ) (p : Spot) (at : ℕ) (x : Range) → Means text x → drop at s ≡ text ++ (44 ∷ rest) → reads s p at ≡ got x (at + (length text + 1))
 
--- the token that a mark is
+-- The token that a mark is.
 pub comma-token : (s rest : List ℕ) (at : ℕ) → drop at s ≡ 44 ∷ rest → token (drop at s) ≡ Some (mark Comma)
 unfolding token
 comma-token s rest at e = ap token e

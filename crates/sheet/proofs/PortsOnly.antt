@@ -14,7 +14,7 @@ use Rattle.std.specs.declared.option.Option.{Option}
 use Rattle.std.specs.declared.option.Option.the-variants.{Some, None}
 use Rattle.sheet.specs.declared.tokens.Mark.the-variants.{Dot, Slash, Dash, Star, Comma, LineFeed}
 use Rattle.policy.specs.declared.rules.Range.{Range}
-use Rattle.sheet.specs.declared.faults.Spot.{Spot}
+use Rattle.faults.specs.declared.Spot.{Spot}
 use Rattle.sheet.specs.Forms.{Want, digits, the, Read, got, fault, walk, port-form}
 use Rattle.sheet.specs.Readings.{span, port-at, port-of, meant, ranged}
 use Rattle.sheet.specs.Meaning.{Port, every, single, between}
@@ -26,11 +26,11 @@ Only reads Means =
     (s : List ℕ) (p : Spot) (at to : ℕ) (x : Range) → reads s p at ≡ got x to →
     (text : List ℕ) × (Means text x × (drop at s ≡ text ++ (44 ∷ drop to s)) × (to ≡ at + (length text + 1)))
 
-pub ranged-got : (p : Spot) (at m : ℕ) (o : Option Range) (x : Range) (to : ℕ) → ranged p at m o ≡ got x to → (o ≡ Some x) × (m ≡ to)
+pub ranged-got : {A : Type 0} (p : Spot) (at m : ℕ) (o : Option A) (x : A) (to : ℕ) → ranged p at m o ≡ got x to → (o ≡ Some x) × (m ≡ to)
 ranged-got p at m None x to h = let z : _≡_ {A = ℕ} 0 1 = cc in absurd (omega arith)
 ranged-got p at m (Some y) x to h = (let q : y ≡ x = cc in ap Some q, (cc))
 
-pub meant-got : (of : List ℕ → Option Range) (p : Spot) (at : ℕ) (r : Read (List ℕ)) (x : Range) (to : ℕ) → meant of p at r ≡ got x to → (ns : List ℕ) × ((r ≡ got ns to) × (of ns ≡ Some x))
+pub meant-got : {A : Type 0} (of : List ℕ → Option A) (p : Spot) (at : ℕ) (r : Read (List ℕ)) (x : A) (to : ℕ) → meant of p at r ≡ got x to → (ns : List ℕ) × ((r ≡ got ns to) × (of ns ≡ Some x))
 meant-got of p at (fault e) x to h = let z : _≡_ {A = ℕ} 0 1 = cc in absurd (omega arith)
 meant-got of p at (got ns m) x to h = let q = ranged-got p at m (of ns) x to h in (ns, (ap (got ns) (q .1), q .0))
 

@@ -16,7 +16,7 @@ use Rattle.std.specs.declared.option.Option.{Option}
 use Rattle.std.specs.declared.option.Option.the-variants.{Some, None}
 use Rattle.policy.specs.declared.rules.Range.{Range}
 use Rattle.sheet.specs.declared.tokens.Mark.the-variants.{Dot, Slash, Dash, Star, Comma, LineFeed}
-use Rattle.sheet.specs.declared.faults.Spot.{Spot}
+use Rattle.faults.specs.declared.Spot.{Spot}
 use Rattle.sheet.specs.Tokens.{token, Tok, number, word, mark, size}
 use Rattle.sheet.specs.Forms.{Want, digits, the, name, figures, Read, got, noted, walk, after, protocol-form}
 use Rattle.sheet.specs.Readings.{span, protocol-at, protocol-of, meant, ranged}

@@ -12,7 +12,7 @@ use Rattle.std.specs.declared.option.Option.{Option}
 use Rattle.std.specs.declared.option.Option.the-variants.{Some, None}
 use Rattle.sheet.specs.declared.tokens.Mark.{Mark}
 use Rattle.sheet.specs.declared.tokens.Mark.the-variants.{Dot, Slash, Dash, Star, Comma, LineFeed}
-use Rattle.sheet.specs.declared.faults.Spot.{Spot}
+use Rattle.faults.specs.declared.Spot.{Spot}
 use Rattle.sheet.specs.Tokens.{is-digit, token, Tok, number, word, mark, size}
 use Rattle.sheet.specs.Forms.{Want, digits, the, name, byte, fits, Read, got, noted, went, walk}
 use Rattle.sheet.proofs.Numbers.{token-decimal, past}

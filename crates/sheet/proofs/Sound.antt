@@ -21,7 +21,7 @@ use Rattle.sheet.specs.declared.tokens.Mark.{Mark}
 use Rattle.sheet.specs.declared.tokens.Mark.the-variants.{Dot, Slash, Dash, Star, Comma, LineFeed}
 use Rattle.sheet.specs.declared.tokens.Begins.{Begins}
 use Rattle.sheet.specs.declared.tokens.Begins.the-variants.{Number, Word, One, Nothing}
-use Rattle.sheet.specs.declared.faults.Spot.{Spot}
+use Rattle.faults.specs.declared.Spot.{Spot}
 use Rattle.sheet.specs.Tokens.{run, is-digit, is-letter, begins, begun, token, Tok, number, word, mark, size, well-made, digits-of, letters-of}
 use Rattle.sheet.specs.Forms.{Want, digits, the, name, byte, same, named, fits, figures, after, ended, Read, got, fault, noted, went, turn, walk}
 use Rattle.sheet.proofs.Taking.{digit-begins, run-some, length-run, digits-digits}
@@ -29,7 +29,7 @@ use Rattle.sheet.proofs.Taking.{digit-begins, run-some, length-run, digits-dig
 own : Numerals (Digits 10) (value 10)
 own = numerals-by-value (Digits 10) (search needs)
 
--- what a token says, as bytes and as numbers
+-- What a token says, as bytes and as numbers.
 abbrev pub Says : Want → List ℕ → List ℕ → Type 0
 Says digits text ns = (n : ℕ) × ((n < 100000) × (text ≡ decimal n) × (ns ≡ n ∷ []))
 Says (the m) text ns = (text ≡ byte m ∷ []) × (ns ≡ [])
@@ -227,11 +227,11 @@ after-in t [] v i = elim i [ ]
 after-in t ([] ∷ ways) v i = let q = after-in t ways v i in (q .0, (there (q .1 .0), q .1 .1))
 after-in t ((w ∷ ws) ∷ ways) v i = after-step t w ws ways v (fits w t) (after-in t ways v) refl i
 
--- some way of the form stands at the place, as these bytes
+-- Some way of the form stands at the place, as these bytes.
 abbrev pub Stands : List (List Want) → List ℕ → ℕ → List ℕ → ℕ → Type 0
 Stands ways s at ns to = (way : List Want) × ((text : List ℕ) × (In way ways × Spelt way text ns × (drop at s ≡ text ++ drop to s) × (to ≡ at + length text)))
 
-fault-got : {A : Type 0} (e : Rattle.sheet.specs.declared.faults.FieldFault.FieldFault) (ns : List ℕ) (to : ℕ) → fault e ≡ got ns to → A
+fault-got : {A : Type 0} (e : Rattle.faults.specs.declared.FieldFault.FieldFault) (ns : List ℕ) (to : ℕ) → fault e ≡ got ns to → A
 fault-got e ns to h = let z : _≡_ {A = ℕ} 0 1 = cc in absurd (omega arith)
 
 noted-got : (ns : List ℕ) (x : Read (List ℕ)) (ls : List ℕ) (to : ℕ) → noted ns x ≡ got ls to → (ms : List ℕ) × ((x ≡ got ms to) × (ls ≡ ns ++ ms))
@@ -258,7 +258,7 @@ one-first ways s at t v u ms to e i sp d l =
 went-sound : (p : Spot) (f : List (List Want) → ℕ → Read (List ℕ)) (ways : List (List Want)) (s : List ℕ) (at : ℕ) (t : Tok) (ns : List ℕ) (to : ℕ) → token (drop at s) ≡ Some t →
     ((vs : List (List Want)) (a : ℕ) (ms : List ℕ) → f vs a ≡ got ms to → Stands vs s a ms to) →
     (vs : List (List Want)) → after t ways ≡ vs → went p f t at vs ≡ got ns to → Stands ways s at ns to
-went-sound p f ways s at t ns to e rec [] a h = fault-got (Rattle.sheet.specs.declared.faults.FieldFault.the-variants.Misfit at p) ns to h
+went-sound p f ways s at t ns to e rec [] a h = fault-got (Rattle.faults.specs.declared.FieldFault.the-variants.Misfit at p) ns to h
 went-sound p f ways s at t ns to e rec (v ∷ vs) a h =
     elim (cases-bool (ended (v ∷ vs))) [
       | inl w ↦
@@ -278,10 +278,10 @@ went-sound p f ways s at t ns to e rec (v ∷ vs) a h =
 turn-sound : (p : Spot) (f : List (List Want) → ℕ → Read (List ℕ)) (ways : List (List Want)) (s : List ℕ) (at : ℕ) (ns : List ℕ) (to : ℕ) →
     ((vs : List (List Want)) (a : ℕ) (ms : List ℕ) → f vs a ≡ got ms to → Stands vs s a ms to) →
     (o : Option Tok) → token (drop at s) ≡ o → turn p f ways at o ≡ got ns to → Stands ways s at ns to
-turn-sound p f ways s at ns to rec None e h = fault-got (Rattle.sheet.specs.declared.faults.FieldFault.the-variants.IllMade (record { at = at; spot = p })) ns to h
+turn-sound p f ways s at ns to rec None e h = fault-got (Rattle.faults.specs.declared.FieldFault.the-variants.IllMade (record { at = at; spot = p })) ns to h
 turn-sound p f ways s at ns to rec (Some t) e h = went-sound p f ways s at t ns to e rec (after t ways) refl h
 
 pub walk-sound : (k : ℕ) (ways : List (List Want)) (s : List ℕ) (p : Spot) (at : ℕ) (ns : List ℕ) (to : ℕ) → walk k ways s p at ≡ got ns to → Stands ways s at ns to
-walk-sound zero ways s p at ns to h = fault-got (Rattle.sheet.specs.declared.faults.FieldFault.the-variants.Misfit at p) ns to h
+walk-sound zero ways s p at ns to h = fault-got (Rattle.faults.specs.declared.FieldFault.the-variants.Misfit at p) ns to h
 walk-sound (suc k) ways s p at ns to h =
     turn-sound p (λ vs a. walk k vs s p a) ways s at ns to (λ vs a ms. walk-sound k vs s p a ms to) (token (drop at s)) refl h

@@ -12,8 +12,8 @@ use Rattle.std.specs.declared.option.Option.{Option}
 use Rattle.std.specs.declared.option.Option.the-variants.{Some, None}
 use Rattle.std.specs.declared.result.Result.{Result}
 use Rattle.std.specs.declared.result.Result.the-variants.{Ok, Err}
-use Rattle.sheet.specs.declared.faults.SheetFault.{SheetFault}
-use Rattle.sheet.specs.declared.faults.SheetFault.the-variants.{TooLong, NoPlace, NoLineFeed, Field, NoWord}
+use Rattle.faults.specs.declared.SheetFault.{SheetFault}
+use Rattle.faults.specs.declared.SheetFault.the-variants.{TooLong, NoPlace, NoLineFeed, Field, NoWord}
 use Rattle.sheet.specs.Tokens.{run}
 use Rattle.sheet.specs.Sheets.{Answer, Answers, stopped, before, next-line, lines-at, sheet-says, not-feed, good, bad, Lined}
 
@@ -91,7 +91,7 @@ too-long {A = A} line s was h =
 pub not-too-long : {A : Type 0} (line : List ℕ → ℕ → ℕ → Lined A) (s : List ℕ) (was is : List A) (r : Result ℕ SheetFault) → length s ≤ 8192 → Answers (lines-at line s (min (length was) 64) 1 0) was is r → Answers (sheet-says line s (length was)) was is r
 not-too-long {A = A} line s was is r h a = subst (λ (x : Answer A). Answers x was is r) (sym (says line s (length was) h)) a
 
--- what the loop knows at the start of a turn, and how it ends
+-- What the loop knows at the start of a turn, and how it ends.
 module _ {A : Type 0} (line : List ℕ → ℕ → ℕ → Lined A) (s s' : List ℕ) (was is : List A) (n at l : ℕ) (es : s' ≡ s) (el : l ≡ n + 1)
     (few : n ≤ min (length was) 64) (long : length is ≡ length was) (d : drop n is ≡ drop n was)
     (inv : lines-at line s (min (length was) 64) 1 0 ≡ prefixed (take n is) (lines-at line s (min (length was) 64 - n) (n + 1) at)) where

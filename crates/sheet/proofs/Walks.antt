@@ -2,18 +2,18 @@
 use mathlib.Core.Bool.{Bool, true, false, cond}
 use mathlib.Core.List.{List, [], _∷_, _++_, append-assoc}
 use mathlib.Core.Path.{_≡_, refl, sym, ap, _∙_, fun-ext}
-use Rattle.sheet.specs.declared.faults.FieldFault.{FieldFault}
+use Rattle.faults.specs.declared.FieldFault.{FieldFault}
 use Prim.Native.Nat.{ℕ, zero, suc, _+_}
 use lib.ListN.{drop, length}
 use Rattle.std.specs.Reads.{value}
 use Rattle.sheet.specs.Readings.{address-at, address-of, meant}
 use Rattle.std.specs.declared.option.Option.{Option}
 use Rattle.std.specs.declared.option.Option.the-variants.{Some, None}
-use Rattle.sheet.specs.declared.faults.Spot.{Spot}
+use Rattle.faults.specs.declared.Spot.{Spot}
 use Rattle.sheet.specs.Tokens.{Tok, number, word, mark, token, size}
 use Rattle.sheet.specs.Forms.{Want, Read, got, fault, noted, fits, figures, went, turn, walk, expect, address-form, address-rest}
 
--- what was read, and then what follows it
+-- What was read, and then what follows it.
 abbrev pub chained : Read (List ℕ) → (ℕ → Read (List ℕ)) → Read (List ℕ)
 chained (got ns to) f = noted ns (f to)
 chained (fault e) f = fault e
@@ -38,7 +38,7 @@ pub walk-seq : (k : ℕ) (w v : Want) (ws : List Want) (s : List ℕ) (p : Spot)
     walk (suc k) ((w ∷ v ∷ ws) ∷ []) s p at ≡ chained (expect w s p at) (walk k ((v ∷ ws) ∷ []) s p)
 walk-seq k w v ws s p at = two-turns p (λ ws to. walk k ws s p to) (λ ws to. walk 0 ws s p to) w at v ws (token (drop at s))
 
--- what a walk does at a token that is known
+-- What a walk does at a token that is known.
 pub walk-at : (k : ℕ) (ways : List (List Want)) (s : List ℕ) (p : Spot) (at : ℕ) (o : Option Tok) → token (drop at s) ≡ o →
     walk (suc k) ways s p at ≡ turn p (λ ws to. walk k ws s p to) ways at o
 walk-at k ways s p at o e = ap (λ (x : Option Tok). turn p (λ ws to. walk k ws s p to) ways at x) e
@@ -73,7 +73,11 @@ module _ (k : ℕ) (w u v : Want) (ws : List Want) (s s' : List ℕ) (p p' : Spo
   pub pair-fault : (e : FieldFault) → walk 2 ((w ∷ u ∷ []) ∷ []) s' p' at ≡ fault e → walk (suc (suc k)) ((w ∷ u ∷ v ∷ ws) ∷ []) s p at ≡ fault e
   pair-fault e h = walk-pair k w u v ws s p at ∙ ap (λ (x : Read (List ℕ)). chained x (walk k ((v ∷ ws) ∷ []) s p)) (here (fault e) h)
 
--- an address that begins with a number
+-- The last two tokens of a way.
+pub last-pair : (w u : Want) (s s' : List ℕ) (p p' : Spot) (at : ℕ) → s' ≡ s → p' ≡ p → (x : Read (List ℕ)) → walk 2 ((w ∷ u ∷ []) ∷ []) s' p' at ≡ x → walk 2 ((w ∷ u ∷ []) ∷ []) s p at ≡ x
+last-pair w u s s' p p' at es ep x h = ap (λ (t : List ℕ). walk 2 ((w ∷ u ∷ []) ∷ []) t p at) (sym es) ∙ ap (λ (q : Spot). walk 2 ((w ∷ u ∷ []) ∷ []) s' q at) (sym ep) ∙ h
+
+-- An address that begins with a number.
 pub address-number : (s s' : List ℕ) (p p' : Spot) (at at' n : ℕ) (ds : List ℕ) (x : Read (List ℕ)) → token (drop at s) ≡ Some (number ds) → at' ≡ at + length ds →
     n ≡ value 10 ds → s' ≡ s → p' ≡ p → walk 9 address-rest s' p' at' ≡ x → address-at s p at ≡ meant address-of p at (noted (n ∷ []) x)
 address-number s s' p p' at at' n ds x t e v es ep h =

@@ -10,12 +10,12 @@ use Rattle.std.specs.declared.option.Option.{Option}
 use Rattle.std.specs.declared.option.Option.the-variants.{Some, None}
 use Rattle.sheet.specs.declared.tokens.Mark.{Mark}
 use Rattle.sheet.specs.declared.tokens.Mark.the-variants.{Dot, Slash, Dash, Star, Comma, LineFeed}
-use Rattle.sheet.specs.declared.faults.FieldFault.{FieldFault}
-use Rattle.sheet.specs.declared.faults.FieldFault.the-variants.{IllMade, Misfit, OutOfRange}
-use Rattle.sheet.specs.declared.faults.Spot.{Spot}
+use Rattle.faults.specs.declared.FieldFault.{FieldFault}
+use Rattle.faults.specs.declared.FieldFault.the-variants.{IllMade, Misfit, OutOfRange}
+use Rattle.faults.specs.declared.Spot.{Spot}
 use Rattle.sheet.specs.Tokens.{Tok, number, word, mark, token, size}
 
--- what a place of a form asks of a token
+-- What a place of a form asks of a token.
 pub data Want : Type 0 where
   digits : Want
   the : Mark → Want
@@ -46,7 +46,7 @@ fits (name ws) (number ds) = false
 fits (name ws) (word ls) = same ws ls
 fits (name ws) (mark m) = false
 
--- each way to write a field, its closing comma included
+-- Each way to write a field, its closing comma included.
 abbrev pub port-form : List (List Want)
 port-form =
     (the Star ∷ the Comma ∷ [])
@@ -69,29 +69,29 @@ protocol-form =
     ∷ (name (codes "icmp") ∷ the Comma ∷ [])
     ∷ []
 
--- what is left of the ways that begin with a token
+-- What is left of the ways that begin with a token.
 abbrev pub after : Tok → List (List Want) → List (List Want)
 after t [] = []
 after t ([] ∷ ways) = after t ways
 after t ((w ∷ ws) ∷ ways) = cond (fits w t) (ws ∷ after t ways) (after t ways)
 
--- one of the ways is at its end
+-- One of the ways is at its end.
 abbrev pub ended : List (List Want) → Bool
 ended [] = false
 ended ([] ∷ ways) = true
 ended ((w ∷ ws) ∷ ways) = ended ways
 
--- the number that a name stands for
+-- The number that a name stands for.
 abbrev pub named : List ℕ → ℕ
 named ls = cond (same (codes "tcp") ls) 6 (cond (same (codes "udp") ls) 17 1)
 
--- the number that a token says, if any
+-- The number that a token says, if any.
 abbrev pub figures : Tok → List ℕ
 figures (number ds) = value 10 ds ∷ []
 figures (word ls) = named ls ∷ []
 figures (mark m) = []
 
--- what was read and the byte after it, or the fault
+-- What was read and the byte after it, or the fault.
 pub data Read (A : Type 0) : Type 0 where
   got : A → ℕ → Read A
   fault : FieldFault → Read A
@@ -116,11 +116,11 @@ abbrev pub walk : ℕ → List (List Want) → List ℕ → Spot → ℕ → Rea
 walk zero ways s p at = fault (Misfit at p)
 walk (suc k) ways s p at = turn p (λ ws to. walk k ws s p to) ways at (token (drop at s))
 
--- one token that is wanted at a place
+-- One token that is wanted at a place.
 abbrev pub expect : Want → List ℕ → Spot → ℕ → Read (List ℕ)
 expect w s p at = walk 1 ((w ∷ []) ∷ []) s p at
 
--- what is left of a form after a number
+-- What is left of a form after a number.
 abbrev pub port-rest : List (List Want)
 port-rest = after (number []) port-form
 

@@ -3,6 +3,6 @@ pub mod Forms
 pub mod Readings
 pub mod Lines
 pub mod Sheets
-pub mod Faults
-pub mod Worked
 pub mod Meaning
+pub mod Headers
+pub mod Refusing

@@ -9,9 +9,10 @@ use Rattle.std.specs.declared.option.Option.{Option}
 use Rattle.std.specs.declared.option.Option.the-variants.{Some, None}
 use Rattle.std.specs.declared.result.Result.{Result}
 use Rattle.std.specs.declared.result.Result.the-variants.{Ok, Err}
+use Rattle.policy.specs.declared.fields.Header.{Header}
 use Rattle.policy.specs.declared.rules.Range.{Range}
 use Rattle.policy.specs.declared.rules.Rule.{Rule}
-use Rattle.sheet.specs.declared.faults.SheetFault.{SheetFault}
+use Rattle.faults.specs.declared.SheetFault.{SheetFault}
 use Rattle.sheet.specs.Readings.{span, address-low}
 
 -- A port is `*`, a number up to 65535, or a low and a high end with a dash.
@@ -68,18 +69,53 @@ pub record Line (code : List ℕ → Option ℕ) (text : List ℕ) (rule : Rule)
   pub ranges-are : rule .ranges ≡ parts .sources ∷ parts .destinations ∷ parts .source-ports ∷ parts .destination-ports ∷ parts .protocols ∷ []
   pub word-means : code (parts .word) ≡ Some (rule .code)
 
--- A sheet means a list of rules: it has a line for each.
-pub data Means (code : List ℕ → Option ℕ) : List ℕ → List Rule → Type 0 where
-  nothing : Means code [] []
-  line : {text rest : List ℕ} {rule : Rule} {rules : List Rule} → Line code text rule → Means code rest rules → Means code (text ++ rest) (rule ∷ rules)
+-- The four numbers of an address, with dots.
+pub record Dotted (text : List ℕ) (n : ℕ) : Type 0 where
+  pub a : ℕ
+  pub b : ℕ
+  pub c : ℕ
+  pub d : ℕ
+  pub small : (a ≤ 255) × (b ≤ 255) × (c ≤ 255) × (d ≤ 255)
+  pub text-is : text ≡ decimal a ++ (codes "." ++ (decimal b ++ (codes "." ++ (decimal c ++ (codes "." ++ decimal d)))))
+  pub n-is : n ≡ address-low a b c d
+
+-- A number up to the top.
+abbrev pub UpTo : ℕ → List ℕ → ℕ → Type 0
+UpTo top text n = (n ≤ top) × (text ≡ decimal n)
+
+-- A line means a header: five fields with commas between them, each of which means a number, and a line
+-- feed.
+pub record HeaderLine (text : List ℕ) (header : Header) : Type 0 where
+  pub source : List ℕ
+  pub destination : List ℕ
+  pub source-port : List ℕ
+  pub destination-port : List ℕ
+  pub protocol : List ℕ
+  pub from : ℕ
+  pub to : ℕ
+  pub from-port : ℕ
+  pub to-port : ℕ
+  pub by : ℕ
+  pub text-is : text ≡ source ++ (44 ∷ (destination ++ (44 ∷ (source-port ++ (44 ∷ (destination-port ++ (44 ∷ (protocol ++ (10 ∷ [])))))))))
+  pub source-means : Dotted source from
+  pub destination-means : Dotted destination to
+  pub source-port-means : UpTo 65535 source-port from-port
+  pub destination-port-means : UpTo 65535 destination-port to-port
+  pub protocol-means : UpTo 255 protocol by
+  pub numbers-are : header .numbers ≡ from ∷ to ∷ from-port ∷ to-port ∷ by ∷ []
+
+-- A sheet means a list of rules, or of headers: it has a line for each. `Line` says what a line means.
+pub data Means {A : Type 0} (Line : List ℕ → A → Type 0) : List ℕ → List A → Type 0 where
+  nothing : Means Line [] []
+  line : {text rest : List ℕ} {x : A} {xs : List A} → Line text x → Means Line rest xs → Means Line (text ++ rest) (x ∷ xs)
 
 -- A sheet means one list at most.
-abbrev pub One-meaning : (List ℕ → Option ℕ) → List ℕ → Type 0
-One-meaning code sheet = (rules others : List Rule) → Means code sheet rules → Means code sheet others → rules ≡ others
+abbrev pub One-meaning : {A : Type 0} → (List ℕ → A → Type 0) → List ℕ → Type 0
+One-meaning {A} Line sheet = (xs others : List A) → Means Line sheet xs → Means Line sheet others → xs ≡ others
 
--- What a reading settles: a sheet that is read means the rules in the first places; one that is refused
--- is too long, or means no list that has at most 64 rules and fits the places.
-abbrev pub Settles : (List ℕ → Option ℕ) → List ℕ → List Rule → List Rule → Result ℕ SheetFault → Type 0
-Settles code sheet was is (Ok count) = Means code sheet (take count is)
-Settles code sheet was is (Err fault) =
-    (rules : List Rule) → Means code sheet rules → length sheet ≤ 8192 → length rules ≤ 64 → length rules ≤ length was → ⊥
+-- What a reading settles: a sheet that is read means what stands in the first places; one that is refused
+-- is too long, or means no list that has at most 64 entries and fits the places.
+abbrev pub Settles : {A : Type 0} → (List ℕ → A → Type 0) → List ℕ → List A → List A → Result ℕ SheetFault → Type 0
+Settles {A} Line sheet was is (Ok count) = Means Line sheet (take count is)
+Settles {A} Line sheet was is (Err fault) =
+    (xs : List A) → Means Line sheet xs → length sheet ≤ 8192 → length xs ≤ 64 → length xs ≤ length was → ⊥

@@ -10,13 +10,13 @@ use Rattle.std.specs.declared.option.Option.the-variants.{Some, None}
 use Rattle.std.specs.declared.result.Result.{Result}
 use Rattle.std.specs.declared.result.Result.the-variants.{Ok, Err}
 use Rattle.policy.specs.declared.rules.Range.{Range}
-use Rattle.sheet.specs.declared.faults.Spot.{Spot}
+use Rattle.faults.specs.declared.Spot.{Spot}
 use Rattle.policy.specs.declared.rules.Rule.{Rule}
-use Rattle.sheet.specs.declared.faults.TokenFault.{TokenFault}
-use Rattle.sheet.specs.declared.faults.FieldFault.{FieldFault}
-use Rattle.sheet.specs.declared.faults.FieldFault.the-variants.{IllMade, Misfit, OutOfRange}
-use Rattle.sheet.specs.declared.faults.SheetFault.{SheetFault}
-use Rattle.sheet.specs.declared.faults.SheetFault.the-variants.{TooLong, NoPlace, NoLineFeed, Field, NoWord}
+use Rattle.faults.specs.declared.TokenFault.{TokenFault}
+use Rattle.faults.specs.declared.FieldFault.{FieldFault}
+use Rattle.faults.specs.declared.FieldFault.the-variants.{IllMade, Misfit, OutOfRange}
+use Rattle.faults.specs.declared.SheetFault.{SheetFault}
+use Rattle.faults.specs.declared.SheetFault.the-variants.{TooLong, NoPlace, NoLineFeed, Field, NoWord}
 use Rattle.sheet.specs.Tokens.{run}
 use Rattle.sheet.specs.Forms.{Read, got, fault}
 use Rattle.sheet.specs.Lines.{spot, ranges-at}
@@ -24,11 +24,11 @@ use Rattle.sheet.specs.Lines.{spot, ranges-at}
 abbrev pub not-feed : ℕ → Bool
 not-feed b = not (eqb b 10)
 
--- the bytes of a line from `at` on, without its line feed
+-- The bytes of a line from `at` on, without its line feed.
 abbrev pub up-to-feed : List ℕ → ℕ → List ℕ
 up-to-feed s at = take (run not-feed (drop at s)) (drop at s)
 
--- a rule and the byte after its line, or the fault
+-- A rule and the byte after its line, or the fault.
 pub data Lined (A : Type 0) : Type 0 where
   good : A → ℕ → Lined A
   bad : SheetFault → Lined A
@@ -41,11 +41,11 @@ abbrev pub with-decision : (List ℕ → Option ℕ) → List ℕ → ℕ → Re
 with-decision code s l (fault e) = bad (Field e)
 with-decision code s l (got r at) = decided r (spot l 6) at (min (at + run not-feed (drop at s) + 1) (length s)) (code (up-to-feed s at))
 
--- line l, which begins at byte `at`; `code` is the code of a word of the kind
+-- Line l, which begins at byte `at`; `code` is the code of a word of the kind.
 abbrev pub line-at : (List ℕ → Option ℕ) → List ℕ → ℕ → ℕ → Lined Rule
 line-at code s l at = with-decision code s l (ranges-at s l at)
 
--- what the lines before the first fault say, and that fault if there is one
+-- What the lines before the first fault say, and that fault if there is one.
 pub record Answer (A : Type 0) : Type 0 where
   pub entries : List A
   pub stop : Option SheetFault
@@ -69,11 +69,11 @@ lines-at line s (suc n) l at =
     (cond (leb (length s) (at + run not-feed (drop at s))) (stopped (NoLineFeed (length s) l))
     (next-line (λ to. lines-at line s n (l + 1) to) (line s l at)))
 
--- the answer to a sheet where there are `n` places
+-- The answer to a sheet where there are `n` places.
 abbrev pub sheet-says : {A : Type 0} → (List ℕ → ℕ → ℕ → Lined A) → List ℕ → ℕ → Answer A
 sheet-says line s n = cond (leb (length s) 8192) (lines-at line s (min n 64) 1 0) (stopped TooLong)
 
--- the code of a word of a kind
+-- The code of a word of a kind.
 abbrev pub number-of : {D : Type 0} → (D → ℕ) → Option D → Option ℕ
 number-of f None = None
 number-of f (Some d) = Some (f d)
@@ -81,17 +81,17 @@ number-of f (Some d) = Some (f d)
 abbrev pub coded : {D : Type 0} → (List ℕ → Option D) → (D → ℕ) → List ℕ → Option ℕ
 coded named numbered w = number-of numbered (named w)
 
--- a call read a line, and stands at the byte after it
+-- A call read a line, and stands at the byte after it.
 abbrev pub Says : {A : Type 0} → Lined A → Result A SheetFault → ℕ → Type 0
 Says says (Ok x) end = says ≡ good x end
 Says says (Err e) end = says ≡ bad e
 
--- the count of entries, or the fault
+-- The count of entries, or the fault.
 abbrev pub Stops : {A : Type 0} → Answer A → Result ℕ SheetFault → Type 0
 Stops a (Ok n) = (a .stop ≡ None) × (n ≡ length (a .entries))
 Stops a (Err e) = a .stop ≡ Some e
 
--- a call gave this answer: the entries stand in the first places, and the other places are as before
+-- A call gave this answer: the entries stand in the first places, and the other places are as before.
 pub record Answers {A : Type 0} (a : Answer A) (was is : List A) (r : Result ℕ SheetFault) : Type 0 where
   pub stops : Stops a r
   pub places : is ≡ (a .entries) ++ drop (length (a .entries)) was

@@ -19,13 +19,13 @@ is-digit b = leb 48 b && leb b 57
 abbrev pub is-letter : ℕ → Bool
 is-letter b = leb 97 b && leb b 122
 
--- what a byte begins
+-- What a byte begins.
 abbrev pub begins : ℕ → Begins
 begins b =
     cond (is-digit b) Number (cond (is-letter b) Word (cond (eqb b 46) (One Dot) (cond (eqb b 47) (One Slash)
     (cond (eqb b 45) (One Dash) (cond (eqb b 42) (One Star) (cond (eqb b 44) (One Comma) (cond (eqb b 10) (One LineFeed) Nothing)))))))
 
--- how many bytes at the front pass a test
+-- How many bytes at the front pass a test.
 abbrev pub run : (ℕ → Bool) → List ℕ → ℕ
 run p [] = 0
 run p (b ∷ bs) = cond (p b) (suc (run p bs)) 0
@@ -35,7 +35,7 @@ pub data Tok : Type 0 where
   word : List ℕ → Tok
   mark : Mark → Tok
 
--- at most five digits, and no zero before others
+-- At most five digits, and no zero before others.
 abbrev pub well-made : List ℕ → Bool
 well-made ds = leb (length ds) 5 && (eqb (length ds) 1 || not (eqb (getD ds 0 0) 48))
 
@@ -45,7 +45,7 @@ digits-of bs = take (run is-digit bs) bs
 abbrev pub letters-of : List ℕ → List ℕ
 letters-of bs = take (run is-letter bs) bs
 
--- the token that begins the bytes, if it is well made
+-- The token that begins the bytes, if it is well made.
 abbrev pub begun : Begins → List ℕ → Option Tok
 begun Number bs = cond (well-made (digits-of bs)) (Some (number (digits-of bs))) None
 begun Word bs = Some (word (letters-of bs))
@@ -55,7 +55,7 @@ begun Nothing bs = None
 unfoldable pub token : List ℕ → Option Tok
 token bs = begun (begins (getD bs 0 0)) bs
 
--- how many bytes a token takes
+-- How many bytes a token takes.
 abbrev pub size : Tok → ℕ
 size (number ds) = length ds
 size (word ls) = length ls

@@ -5,23 +5,23 @@ ghost use mathlib.Core.Path.{_≡_};
 ghost use Prim.Native.Nat.{_+_, _≤_, _<_};
 ghost use lib.ListN.{length, drop};
 ghost use Rattle.sheet.specs.Forms.{digits, the, expect, walk, port-rest, address-rest};
-ghost use Rattle.sheet.specs.Lines.{ranges-at, fully};
+ghost use Rattle.sheet.specs.Lines.{ranges-at};
 ghost use Rattle.sheet.specs.Readings.{Taken, Tells, one, none, listed, itself, quad, address-at, address-of, protocol-at, port-at};
 ghost use Rattle.sheet.specs.Sheets.{not-feed, line-at, coded, Says};
 ghost use Rattle.sheet.specs.Tokens.{run, goes-on, well-made};
 ghost use Rattle.std.specs.Reads.{value, Digits};
-use crate::faults::FieldFault;
-use crate::faults::FieldFaultFromToken;
-use crate::faults::SheetFault;
-use crate::faults::SheetFaultFromField;
-use crate::faults::Spot;
-use crate::faults::TokenFault;
 use crate::tokens::Begins;
 use crate::tokens::Mark;
 use crate::tokens::MarkPartialEq;
 use crate::tokens::Token;
 use crate::tokens::class_of;
 use crate::tokens::goes_on;
+use faults::FieldFault;
+use faults::FieldFaultFromToken;
+use faults::SheetFault;
+use faults::SheetFaultFromField;
+use faults::Spot;
+use faults::TokenFault;
 use policy::fields::FIELDS;
 use policy::kinds::Kind;
 use policy::rules::Range;
@@ -130,7 +130,7 @@ impl<'a> Reader<'a> {
     }
 
     // The number that is to stand here.
-    fn number(&mut self) -> Result<u32, FieldFault>
+    pub fn number(&mut self) -> Result<u32, FieldFault>
         requires { ⌜ now self .at ≤ length (now (now self .sheet)) ⌝ }
         ensures same { λ _. ⌜ now (now (self .exit) .sheet) ≡ now (now (self .entry) .sheet) ⌝ }
         ensures stays { λ _. ⌜ now (self .exit) .spot ≡ now (self .entry) .spot ⌝ }
@@ -145,7 +145,7 @@ impl<'a> Reader<'a> {
     }
 
     // The mark that is to stand here.
-    fn mark(&mut self, wanted: Mark) -> Result<(), FieldFault>
+    pub fn mark(&mut self, wanted: Mark) -> Result<(), FieldFault>
         requires { ⌜ now self .at ≤ length (now (now self .sheet)) ⌝ }
         ensures same { λ _. ⌜ now (now (self .exit) .sheet) ≡ now (now (self .entry) .sheet) ⌝ }
         ensures stays { λ _. ⌜ now (self .exit) .spot ≡ now (self .entry) .spot ⌝ }
@@ -315,7 +315,7 @@ impl<'a> Reader<'a> {
         ensures same { λ _. ⌜ now (now (self .exit) .sheet) ≡ now (now (self .entry) .sheet) ⌝ }
         ensures stays { λ _. ⌜ now (self .exit) .spot .line ≡ now (self .entry) .spot .line ⌝ }
         ensures within { λ _. ⌜ now (self .exit) .at ≤ length (now (now (self .entry) .sheet)) ⌝ }
-        ensures tells { λ r. ⌜ Tells fully (ranges-at (now (now (self .entry) .sheet)) (now (self .entry) .spot .line) (now (self .entry) .at)) r (now (self .exit) .at) ⌝ }
+        ensures tells { λ r. ⌜ Tells itself (ranges-at (now (now (self .entry) .sheet)) (now (self .entry) .spot .line) (now (self .entry) .at)) r (now (self .exit) .at) ⌝ }
     {
         self.spot.field = 1;
         let source = self.address()?;

@@ -1,10 +1,11 @@
 // Sheets of rules.
 ghost use Prim.Native.Nat.{min};
 ghost use lib.ListN.{length};
-ghost use Rattle.sheet.specs.Meaning.{Settles, One-meaning};
+ghost use Rattle.sheet.specs.Meaning.{Line, Settles, One-meaning};
+ghost use Rattle.sheet.specs.Refusing.{Refusals-right};
 ghost use Rattle.sheet.specs.Sheets.{coded, line-at, lines-at, sheet-says, Answers};
-use crate::faults::SheetFault;
 use crate::reader::Reader;
+use faults::SheetFault;
 use policy::kinds::Kind;
 use policy::rules::Rule;
 
@@ -39,8 +40,9 @@ fn read_lines<K: Kind>(sheet: &[u8], places: &mut [Rule]) -> Result<usize, Sheet
 // of the lines before a fault stand in their places; all other places are as before.
 pub fn read_rules<K: Kind>(sheet: &[u8], places: &mut [Rule]) -> Result<usize, SheetFault>
     ensures answers { λ r. ⌜ Answers (sheet-says (line-at (coded (K·Kind .ofWord) (K·Kind .codeOf))) (now (sheet .entry)) (length (now (places .entry)))) (now (places .entry)) (now (places .exit)) r ⌝ }
-    ensures settles { λ r. ⌜ Settles (coded (K·Kind .ofWord) (K·Kind .codeOf)) (now (sheet .entry)) (now (places .entry)) (now (places .exit)) r ⌝ }
-    ensures one { λ _. ⌜ One-meaning (coded (K·Kind .ofWord) (K·Kind .codeOf)) (now (sheet .entry)) ⌝ }
+    ensures settles { λ r. ⌜ Settles (Line (coded (K·Kind .ofWord) (K·Kind .codeOf))) (now (sheet .entry)) (now (places .entry)) (now (places .exit)) r ⌝ }
+    ensures refusals { λ r. ⌜ Refusals-right (coded (K·Kind .ofWord) (K·Kind .codeOf)) (now (sheet .entry)) (now (places .entry)) (now (places .exit)) r ⌝ }
+    ensures one { λ _. ⌜ One-meaning (Line (coded (K·Kind .ofWord) (K·Kind .codeOf))) (now (sheet .entry)) ⌝ }
 {
     if sheet.len() > LONGEST_SHEET {
         return Err(SheetFault::TooLong);

@@ -3,7 +3,7 @@ ghost use mathlib.Core.Path.{_≡_};
 ghost use Rattle.sheet.specs.Tokens.{begins, goes-on};
 
 // A byte that is a token by itself.
-#[derive(Clone, Copy, Debug, PartialEq)]
+#[derive(Clone, Copy, PartialEq)]
 pub enum Mark {
     Dot,
     Slash,
@@ -14,7 +14,7 @@ pub enum Mark {
 }
 
 // A token: a number or a word by its bytes, or a mark.
-#[derive(Clone, Copy, Debug)]
+#[derive(Clone, Copy)]
 pub enum Token<'a> {
     Number(&'a [u8]),
     Word(&'a [u8]),

@@ -6,9 +6,9 @@ use Rattle.std.specs.declared.option.Option.{Option}
 use Rattle.std.specs.declared.option.Option.the-variants.{Some, None}
 use Rattle.std.proofs.shelf.Results.{err-from-errBy}
 use Rattle.policy.specs.declared.rules.Range.{Range}
-use Rattle.sheet.specs.declared.faults.Spot.{Spot}
+use Rattle.faults.specs.declared.Spot.{Spot}
 use Rattle.sheet.specs.declared.tokens.Token.{Token}
-use Rattle.sheet.specs.declared.faults.FieldFault.the-variants.{OutOfRange}
+use Rattle.faults.specs.declared.FieldFault.the-variants.{OutOfRange}
 use Rattle.sheet.specs.Tokens.{token, number, size, Tok}
 use Rattle.sheet.specs.Readings.{seen, quad, ranged}
 use Rattle.sheet.specs.Forms.{Read, got, fault}

@@ -5,8 +5,8 @@ use native.Mathlib.Omega.{arith}
 use lib.ListN.{length}
 use Rattle.std.specs.declared.option.Option.{Option}
 use Rattle.std.specs.declared.option.Option.the-variants.{Some, None}
-use Rattle.sheet.specs.declared.faults.Spot.{Spot}
-use Rattle.sheet.specs.declared.faults.SheetFault.the-variants.{NoWord}
+use Rattle.faults.specs.declared.Spot.{Spot}
+use Rattle.faults.specs.declared.SheetFault.the-variants.{NoWord}
 use Rattle.sheet.specs.Lines.{spot}
 use Rattle.sheet.specs.Sheets.{good, bad, Lined}
 use Rattle.sheet.proofs.Decisions.{line-word}
