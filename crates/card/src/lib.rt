@@ -1,4 +1,6 @@
 // The card: rule chains in a match store, and look-ups that walk them.
+#![tactic(auto)]
+
 pub mod boxes;
 pub mod cards;
 pub mod events;

@@ -1,4 +1,6 @@
 // From a rule list to its reduced diagram and the rows of its chain.
+#![tactic(auto)]
+
 pub mod blocks;
 pub mod build;
 pub mod caches;

@@ -1,4 +1,6 @@
 // Compiles some rule lists and tells how large their chains are; with an argument also how long it took.
+#![tactic(auto)]
+
 use compile::calls::compile;
 use compile::places::Place;
 use policy::rules::{Range, Rule};

@@ -1,4 +1,6 @@
 // What is wrong with a sheet, and where.
+#![tactic(auto)]
+
 ghost use Rattle.std.specs.Prelude.{◌≡◌};
 ghost use Rattle.faults.specs.declared.FieldFault.TheVariants.{IllMade};
 ghost use Rattle.faults.specs.declared.SheetFault.TheVariants.{Field};

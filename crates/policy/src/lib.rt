@@ -1,4 +1,6 @@
 // Rules, headers and decisions.
+#![tactic(auto)]
+
 pub mod fields;
 pub mod kinds;
 pub mod plain;

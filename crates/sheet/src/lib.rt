@@ -24,6 +24,8 @@
 // 6. Are the numbers of the field in range, its low end not above its high end, and the bits of an
 //    address after its length zero? At the first byte of the field.
 // 7. Is the last field a word of the kind? At its first byte.
+#![tactic(auto)]
+
 pub mod headers;
 mod reader;
 pub mod sheets;

@@ -1,5 +1,7 @@
 // Sheets that are read and sheets that are refused. The expected numbers and bytes are worked out by
 // hand from the rules of sheets.
+#![tactic(auto)]
+
 #[cfg(test)]
 mod clean;
 #[cfg(test)]

@@ -1,4 +1,6 @@
 // Worked examples of faults.
+#![tactic(auto)]
+
 ghost use Rattle.faults.specs.Faults.{tells_at};
 ghost use Rattle.sheet_worked.specs.Worked.{Refuses};
 ghost use Rattle.faults.specs.declared.Layer.TheVariants.{Token, Field};

@@ -1,4 +1,6 @@
 // Match stores: rows of a key and a result, found by key.
+#![tactic(auto)]
+
 pub mod flat;
 pub mod row;
 #[cfg(test)]

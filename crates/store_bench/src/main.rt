@@ -1,5 +1,7 @@
 // Counts what searches of a flat store and of a hash store find; with the word `time`, says how many
 // operations each makes in a second.
+#![tactic(auto)]
+
 use hash_store::cell::FREE;
 use hash_store::hash::HashStore;
 use std::time::Instant;

@@ -1,5 +1,7 @@
 // Use of a match store, whichever it is: what holds of calls in a row, and that no calls tell one
 // store from another.
+#![tactic(auto)]
+
 ghost use Rattle.std.specs.Prelude.{◌≡◌, T};
 ghost use Rattle.store_client.specs.Uses.{Performed, WrittenThenSearched, ErasedThenSearched, Alike};
 

@@ -1,5 +1,7 @@
 // Decides the worked headers by the worked rules, compiles the rules, then makes some calls on a card, and
 // tells each step.
+#![tactic(auto)]
+
 use card::boxes::Slot;
 use card::events::{Call, Event};
 use card::refusals::Refusal;

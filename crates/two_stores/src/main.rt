@@ -1,4 +1,6 @@
 // The same calls of a flat store and of a hash store, with what each came to.
+#![tactic(auto)]
+
 ghost use Rattle.std.specs.Prelude.{◌≡◌, T, length};
 
 use hash_store::cell::{Cell, FREE};
