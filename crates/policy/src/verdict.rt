@@ -108,10 +108,10 @@ impl Kind for Verdict {
     }
 
     fn from_word(bytes: &[u8]) -> Option<Verdict> {
-        if bytes == b"accept" {
+        if bytes == b"accept".as_slice() {
             return Some(Verdict::Accept);
         }
-        if bytes == b"discard" {
+        if bytes == b"discard".as_slice() {
             return Some(Verdict::Discard);
         }
         match reason_of(bytes.strip_prefix(b"reject-")?) {

@@ -11,4 +11,4 @@ use Rattle.sheet_worked.proofs.bit_after_length.Goals as goal
 pub returns : goal.returns
 unfolding token
 returns c = refused (sheet_says (line_at (coded verdict_of_word verdict_code)) (codes "10.0.0.1/8,*,*,*,*,accept\n") 1)
-    (Field (OutOfRange 0 (spot 1 1))) c.read-rules.result c.read-rules.ensures.answers.stops refl
+    (Field (OutOfRange 0 (spot 1 1))) c.read_rules.result c.read_rules.ensures.answers.stops refl

@@ -11,4 +11,4 @@ use Rattle.sheet_worked.proofs.leading_zero.Goals as goal
 pub returns : goal.returns
 unfolding token
 returns c = refused (sheet_says (line_at (coded verdict_of_word verdict_code)) (codes "01.0.0.0/8,*,*,*,*,accept\n") 1)
-    (Field (IllMade (record { at = 0; spot = spot 1 1 }))) c.read-rules.result c.read-rules.ensures.answers.stops refl
+    (Field (IllMade (record { at = 0; spot = spot 1 1 }))) c.read_rules.result c.read_rules.ensures.answers.stops refl

@@ -11,4 +11,4 @@ use Rattle.sheet_worked.proofs.low_above_high.Goals as goal
 pub returns : goal.returns
 unfolding token
 returns c = refused (sheet_says (line_at (coded verdict_of_word verdict_code)) (codes "*,*,80-79,*,*,accept\n") 1)
-    (Field (OutOfRange 4 (spot 1 3))) c.read-rules.result c.read-rules.ensures.answers.stops refl
+    (Field (OutOfRange 4 (spot 1 3))) c.read_rules.result c.read_rules.ensures.answers.stops refl

@@ -6,14 +6,14 @@ use Rattle.compile.proofs.blocks.largest_exponent.Goals as goal
 pub loop-e-preserved : goal.loop-e-preserved
 loop-e-preserved c = (
   omega arith,
-  sym (largest_no c.args.low c.args.high c.loop-e.e c.loop-e-test.true (sym c.if-not-has-room.ensures))
+  sym (largest_no c.args.low c.args.high c.loop-e.e c.loop-e-test.true (sym c.if-not-has_room.ensures))
       ∙ c.loop-e.invariant.1,
 )
 
-pub returns-else-not-has-room : goal.returns-else-not-has-room
-returns-else-not-has-room c =
+pub returns-else-not-has_room : goal.returns-else-not-has_room
+returns-else-not-has_room c =
     let q : c.loop-e.e ≡ largest c.args.low c.args.high c.args.width
-    = sym (largest_yes c.args.low c.args.high c.loop-e.e (sym c.if-not-has-room.ensures)) ∙ c.loop-e.invariant.1 in
+    = sym (largest_yes c.args.low c.args.high c.loop-e.e (sym c.if-not-has_room.ensures)) ∙ c.loop-e.invariant.1 in
     record {
       value = q;
       bound = c.loop-e.invariant.0;

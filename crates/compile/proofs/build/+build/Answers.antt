@@ -17,7 +17,7 @@ no_level = record { edges = []; used = 0; slots = []; count = 0 }
 pub returns-then-field-eq-FIELDS : goal.returns-then-field-eq-FIELDS
 returns-then-field-eq-FIELDS t c =
     leaf_end c.args.rules.now c.args.wholes.now c.args.header c.args.live c.args.field c.args.levels.now c.args.known.now
-    c.requires c.if-field-eq-FIELDS.true c.first-code.result c.first-code.ensures
+    c.requires c.if-field-eq-FIELDS.true c.first_code.result c.first_code.ensures
 
 pub returns-in-Some : goal.returns-in-Some
 returns-in-Some t c =
@@ -37,58 +37,58 @@ pub build-requires : goal.build-requires
 build-requires t c = (
   omega arith,
   turn_ready c.args.rules.now c.args.wholes.now c.args.header c.args.live c.args.field c.args.levels.now c.args.known.now c.requires
-      c.args.levels.now c.loop-low.levels c.loop-low.known c.loop-low.low c.top-of-top.result c.cut-piece.result
-      (take c.loop-low.draft.count c.loop-low.draft.edges) (omega (arith, c.requires.most)) c.loop-low.invariant.3 c.top-of-top.ensures c.cut-piece.ensures,
+      c.args.levels.now c.loop-low.levels c.loop-low.known c.loop-low.low c.top_of-top.result c.cut-piece.result
+      (take c.loop-low.draft.count c.loop-low.draft.edges) (omega (arith, c.requires.most)) c.loop-low.invariant.3 c.top_of-top.ensures c.cut-piece.ensures,
 )
 
 pub loop-low-preserved : goal.loop-low-preserved
 loop-low-preserved t c =
     let l : length c.build.new.levels ≡ 5 = search rules in (
       omega (arith, c.cut-piece.ensures.within),
-      c.if-not-add-run.ensures.few,
+      c.if-not-add_run.ensures.few,
       l,
       subst (λ (n : Node). Turn c.args.rules.now c.args.header c.args.field c.args.levels.now c.build.new.levels c.build.new.known (c.cut-piece.result.end + 1) n)
-          (sym (c.if-not-add-run.ensures.made tt))
+          (sym (c.if-not-add_run.ensures.made tt))
           (turn_step c.args.rules.now c.args.wholes.now c.args.header c.args.live c.args.field c.args.levels.now c.args.known.now c.requires
-          c.args.levels.now c.loop-low.levels c.loop-low.known c.loop-low.low c.top-of-top.result c.cut-piece.result
-          (take c.loop-low.draft.count c.loop-low.draft.edges) (omega (arith, c.requires.most)) c.loop-low.invariant.3 c.top-of-top.ensures c.cut-piece.ensures
-          c.build.new.levels c.build.new.known c.in-ok-to.to c.in-ok-to.ensures),
+          c.args.levels.now c.loop-low.levels c.loop-low.known c.loop-low.low c.top_of-top.result c.cut-piece.result
+          (take c.loop-low.draft.count c.loop-low.draft.edges) (omega (arith, c.requires.most)) c.loop-low.invariant.3 c.top_of-top.ensures c.cut-piece.ensures
+          c.build.new.levels c.build.new.known c.in_ok-to.to c.in_ok-to.ensures),
     )
 
-pub returns-then-not-add-run : goal.returns-then-not-add-run
-returns-then-not-add-run t c =
+pub returns-then-not-add_run : goal.returns-then-not-add_run
+returns-then-not-add_run t c =
     wide_end c.args.rules.now c.args.header c.args.field c.args.levels.now c.build.new.levels c.build.new.known c.cut-piece.result.end
-    (added (take c.loop-low.draft.count c.loop-low.draft.edges) c.cut-piece.result.end c.in-ok-to.to)
+    (added (take c.loop-low.draft.count c.loop-low.draft.edges) c.cut-piece.result.end c.in_ok-to.to)
     c.requires.size (omega (arith, c.requires.most)) c.requires.begins
     (turn_step c.args.rules.now c.args.wholes.now c.args.header c.args.live c.args.field c.args.levels.now c.args.known.now c.requires
-    c.args.levels.now c.loop-low.levels c.loop-low.known c.loop-low.low c.top-of-top.result c.cut-piece.result
-    (take c.loop-low.draft.count c.loop-low.draft.edges) (omega (arith, c.requires.most)) c.loop-low.invariant.3 c.top-of-top.ensures c.cut-piece.ensures
-    c.build.new.levels c.build.new.known c.in-ok-to.to c.in-ok-to.ensures)
-    (omega (arith, c.top-of-top.ensures, c.cut-piece.ensures.within))
-    (c.if-not-add-run.ensures.wide refl)
+    c.args.levels.now c.loop-low.levels c.loop-low.known c.loop-low.low c.top_of-top.result c.cut-piece.result
+    (take c.loop-low.draft.count c.loop-low.draft.edges) (omega (arith, c.requires.most)) c.loop-low.invariant.3 c.top_of-top.ensures c.cut-piece.ensures
+    c.build.new.levels c.build.new.known c.in_ok-to.to c.in_ok-to.ensures)
+    (omega (arith, c.top_of-top.ensures, c.cut-piece.ensures.within))
+    (c.if-not-add_run.ensures.wide refl)
 
 none_case : (o : Option ℕ) (P : Type 0) (Q : ℕ → Type 0) → o ≡ None → P → MatchOption o P Q
 none_case o P Q e p = subst (λ o. MatchOption o P Q) (sym e) p
 
-pub returns-in-err-node : goal.returns-in-err-node
-returns-in-err-node t c =
+pub returns-in_err-node : goal.returns-in_err-node
+returns-in_err-node t c =
     let z : c.loop-low.draft.count - 0 ≡ c.loop-low.draft.count = omega arith in
-    none_case c.from-residual-in-err-node.result (Failed widths (decide c.args.rules.now)) _ c.from-residual-in-err-node.ensures
+    none_case c.from_residual-in_err-node.result (Failed widths (decide c.args.rules.now)) _ c.from_residual-in_err-node.ensures
     (crowded_end c.args.rules.now c.args.header c.args.field c.args.levels.now c.loop-low.levels c.loop-low.known c.loop-low.low
     (take c.loop-low.draft.count c.loop-low.draft.edges) no_level c.requires.size (omega (arith, c.requires.most)) c.loop-low.invariant.2 c.requires.begins c.loop-low.invariant.3
-    (omega (arith, c.top-of-top.ensures))
-    (subst (λ n. Refused (get_or c.loop-low.levels c.args.field no_level) (take n c.loop-low.draft.edges)) z c.in-err-node.ensures))
+    (omega (arith, c.top_of-top.ensures))
+    (subst (λ n. Refused (get_or c.loop-low.levels c.args.field no_level) (take n c.loop-low.draft.edges)) z c.in_err-node.ensures))
 
 pub returns : goal.returns
 returns t c =
     let z : c.loop-low.draft.count - 0 ≡ c.loop-low.draft.count = omega arith in
     let Ms : List Level = set c.loop-low.levels c.args.field c.share.new.level in
     let kept = c.remember.ensures in
-    subst (λ (ks : List Known). Finished c.args.rules.now c.args.header c.args.field c.args.levels.now (set c.loop-low.levels c.args.field c.share.new.level) ks c.in-ok-node.node)
+    subst (λ (ks : List Known). Finished c.args.rules.now c.args.header c.args.field c.args.levels.now (set c.loop-low.levels c.args.field c.share.new.level) ks c.in_ok-node.node)
     (sym kept.1)
     (remember_end c.args.rules.now c.args.wholes.now c.args.header c.args.live c.args.field c.args.levels.now c.args.known.now c.requires (omega (arith, c.requires.most))
-    c.args.levels.now Ms c.loop-low.known c.in-ok-node.node kept.0
+    c.args.levels.now Ms c.loop-low.known c.in_ok-node.node kept.0
     (turn_end c.args.rules.now c.args.header c.args.field c.args.levels.now c.loop-low.levels c.loop-low.known c.loop-low.low
-    (take c.loop-low.draft.count c.loop-low.draft.edges) no_level c.share.new.level c.in-ok-node.node
-    c.requires.size (omega (arith, c.requires.most)) c.loop-low.invariant.2 c.requires.begins c.loop-low.invariant.3 (omega (arith, c.top-of-top.ensures))
-    (subst (λ n. Shared (get_or c.loop-low.levels c.args.field no_level) c.share.new.level (take n c.loop-low.draft.edges) c.in-ok-node.node) z c.in-ok-node.ensures)))
+    (take c.loop-low.draft.count c.loop-low.draft.edges) no_level c.share.new.level c.in_ok-node.node
+    c.requires.size (omega (arith, c.requires.most)) c.loop-low.invariant.2 c.requires.begins c.loop-low.invariant.3 (omega (arith, c.top_of-top.ensures))
+    (subst (λ n. Shared (get_or c.loop-low.levels c.args.field no_level) c.share.new.level (take n c.loop-low.draft.edges) c.in_ok-node.node) z c.in_ok-node.ensures)))

@@ -3,6 +3,6 @@ use Rattle.std.proofs.lemmas.List.{set_past}
 use Rattle.std.proofs.lemmas.Bool.{eqb-true}
 use Rattle.compile.proofs.caches.remember.Goals as goal
 
-pub returns-else-not-is-empty : goal.returns-else-not-is-empty
-returns-else-not-is-empty c =
+pub returns-else-not-is_empty : goal.returns-else-not-is_empty
+returns-else-not-is_empty c =
     (length c.args.known.now, sym (set_past c.args.known.now (length c.args.known.now) (record { level = c.args.level; live = c.args.live; node = c.args.node }) (omega arith)))

@@ -8,15 +8,15 @@ use Rattle.compile.specs.Gaps.{Never}
 use Rattle.compile.specs.Compiling.{Fits}
 use Rattle.compile.proofs.calls.compile.Goals as goal
 
-pub returns-in-err-check-list : goal.returns-in-err-check-list
-returns-in-err-check-list g c =
-    let p = err_from_is_err_and c.from-residual.result c.from-residual.ensures.1 in
-    let h = c.in-err-check-list.ensures in
+pub returns-in_err-check_list : goal.returns-in_err-check_list
+returns-in_err-check_list g c =
+    let p = err_from_is_err_and c.from_residual.result c.from_residual.ensures.1 in
+    let h = c.in_err-check_list.ensures in
     rw (p.1, p.2)
     (record {
       asked = list_refused (Coded g.K.Kind.of_code) c.args.rules.now (ask 10 (Never c.args.rules.now None) (ask 11 (Fits c.args.rules.now) accept))
-          (list_number c.in-err-check-list.field-0.0) h.asked;
-      made = c.clear-levels.ensures.none;
-      order = c.clear-levels.ensures.sound;
+          (list_number c.in_err-check_list.field-0.0) h.asked;
+      made = c.clear_levels.ensures.none;
+      order = c.clear_levels.ensures.sound;
       names = h.names;
     })

@@ -45,8 +45,8 @@ module _ (edges : List Edge) (n hi t : ℕ) (l : n ≤ length edges) where
       ∙ length_push (take (n - 1) edges ++ get_or edges (n - 1) zero_edge ∷ []) (record { high = hi; to = t })
       ∙ ap (λ i. i + 1) (ap length (sym (last edges n hi t l p)) ∙ length-take-le n edges l)
 
-pub returns-then-place-ge-MAX-EDGES : goal.returns-then-place-ge-MAX-EDGES
-returns-then-place-ge-MAX-EDGES c =
+pub returns-then-place-ge-MAX_EDGES : goal.returns-then-place-ge-MAX_EDGES
+returns-then-place-ge-MAX_EDGES c =
     record {
       few = search rules;
       made = λ e. absurd e;

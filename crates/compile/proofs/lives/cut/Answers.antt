@@ -2,11 +2,11 @@ use Rattle.std.proofs.Common.{sym, arith}
 use Rattle.compile.proofs.Living.{looked_more, cut_all, cut_whole}
 use Rattle.compile.proofs.lives.cut.Goals as goal
 
-pub returns-then-is-live-2 : goal.returns-then-is-live-2
-returns-then-is-live-2 c =
+pub returns-then-is_live-2 : goal.returns-then-is_live-2
+returns-then-is_live-2 c =
     let N = c.narrow-piece.ensures in
     cut_whole c.args.rules.now c.args.live c.args.field c.args.low c.args.top c.loop-i.i c.args.whole c.narrow-piece.result
-    N.ahead (omega (arith, N.within, c.loop-i.invariant.1)) c.loop-i-test.true c.requires.1.1.1 (sym c.if-is-live.ensures) (sym c.if-is-live-2.ensures)
+    N.ahead (omega (arith, N.within, c.loop-i.invariant.1)) c.loop-i-test.true c.requires.1.1.1 (sym c.if-is_live.ensures) (sym c.if-is_live-2.ensures)
     (looked_more c.args.rules.now c.args.live c.args.field c.args.low c.loop-i.i c.loop-i.piece c.narrow-piece.result c.loop-i.invariant.2 N)
 
 pub returns : goal.returns

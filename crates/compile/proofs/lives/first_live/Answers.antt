@@ -5,9 +5,9 @@ use Rattle.compile.specs.Lives.{takes}
 use Rattle.compile.proofs.Living.{where_more, where_next}
 use Rattle.compile.proofs.lives.first_live.Goals as goal
 
-pub returns-then-is-live : goal.returns-then-is-live
-returns-then-is-live c =
-    let t : takes c.args.rules.now c.args.live 5 [] c.loop-i.i ≡ true = and_from (bit c.args.live c.loop-i.i) true (sym c.if-is-live.ensures) refl in
+pub returns-then-is_live : goal.returns-then-is_live
+returns-then-is_live c =
+    let t : takes c.args.rules.now c.args.live 5 [] c.loop-i.i ≡ true = and_from (bit c.args.live c.loop-i.i) true (sym c.if-is_live.ensures) refl in
     record {
       value = sym (where_more (takes c.args.rules.now c.args.live 5 []) (c.loop-i.i + 1) (length c.args.rules.now) c.loop-i.i (omega arith)
           (where_next (takes c.args.rules.now c.args.live 5 []) c.loop-i.i c.loop-i.invariant true t));
@@ -17,4 +17,4 @@ returns-then-is-live c =
 pub loop-i-preserved : goal.loop-i-preserved
 loop-i-preserved c =
     where_next (takes c.args.rules.now c.args.live 5 []) c.loop-i.i c.loop-i.invariant false
-    (and_left (bit c.args.live c.loop-i.i) true (sym c.if-is-live.ensures))
+    (and_left (bit c.args.live c.loop-i.i) true (sym c.if-is_live.ensures))

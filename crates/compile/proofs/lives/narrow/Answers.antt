@@ -17,4 +17,4 @@ pub returns : goal.returns
 returns c =
     let lf : c.args.field < length c.args.rule.now.ranges = search rules in
     narrow_in c.args.rule.now c.args.i c.args.live c.args.field c.args.low c.args.piece lf c.requires.1.1.0 c.requires.1.1.1
-    c.min-2.result c.with-rule.result c.if-not-is-live.ensures c.if-range-low.false c.if-low-range.false c.min-2.ensures c.with-rule.ensures
+    c.min-2.result c.with_rule.result c.if-not-is_live.ensures c.if-range-low.false c.if-low-range.false c.min-2.ensures c.with_rule.ensures

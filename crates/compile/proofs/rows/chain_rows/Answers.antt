@@ -21,8 +21,8 @@ narrow (suc (suc (suc zero))) l = omega arith
 narrow (suc (suc (suc (suc zero)))) l = omega arith
 narrow (suc (suc (suc (suc (suc f))))) l = absurd (omega arith)
 
-pub level-rows-requires : goal.level-rows-requires
-level-rows-requires c =
+pub level_rows-requires : goal.level_rows-requires
+level_rows-requires c =
     let lf : c.loop-field.field < 5 = c.loop-field-test.true in
     let e = level_is c.args.levels.now c.requires.1.1.0 c.told-levels c.loop-field.field lf no_level in
     record {
@@ -35,11 +35,11 @@ level-rows-requires c =
 none_case : (o : Option ℕ) (P : Type 0) (Q : ℕ → Type 0) → o ≡ None → P → MatchOption o P Q
 none_case o P Q e p = subst (λ o. MatchOption o P Q) (sym e) p
 
-pub returns-in-err-count : goal.returns-in-err-count
-returns-in-err-count c =
+pub returns-in_err-count : goal.returns-in_err-count
+returns-in_err-count c =
     let lf : c.loop-field.field < 5 = c.loop-field-test.true in
     let e = level_is c.args.levels.now c.requires.1.1.0 c.told-levels c.loop-field.field lf no_level in
-    let full = subst (λ (z : List Node). length c.loop-field.out < c.loop-field.count + length (rows_of_level c.args.side (get_or widths c.loop-field.field 0) (c.loop-field.field + 1) 0 z)) e c.in-err-count.ensures in
+    let full = subst (λ (z : List Node). length c.loop-field.out < c.loop-field.count + length (rows_of_level c.args.side (get_or widths c.loop-field.field 0) (c.loop-field.field + 1) 0 z)) e c.in_err-count.ensures in
     let long : length c.args.out.now < length (chain c.args.side widths (diagram_of c.args.levels.now)) =
     omega (
       arith,
@@ -47,19 +47,19 @@ returns-in-err-count c =
           (chain_open c.args.levels.now c.requires.1.1.0 c.told-levels c.loop-field.field lf c.loop-field.out c.loop-field.count c.args.side c.loop-field.invariant.1)
           full c.loop-field.invariant.0 (omega arith) c.loop-field.auto.out,
     ) in
-    none_case c.from-residual.result _ _ c.from-residual.ensures long
+    none_case c.from_residual.result _ _ c.from_residual.ensures long
 
 pub loop-field-preserved : goal.loop-field-preserved
 loop-field-preserved c =
     let lf : c.loop-field.field < 5 = c.loop-field-test.true in
     let e = level_is c.args.levels.now c.requires.1.1.0 c.told-levels c.loop-field.field lf no_level in
-    let w = c.in-ok-count.ensures in (
+    let w = c.in_ok-count.ensures in (
       w.within,
-      part_more c.args.out.now c.loop-field.out c.level-rows.new.out 0 c.loop-field.count c.in-ok-count.count _ _ _
+      part_more c.args.out.now c.loop-field.out c.level_rows.new.out 0 c.loop-field.count c.in_ok-count.count _ _ _
           (chain_open c.args.levels.now c.requires.1.1.0 c.told-levels c.loop-field.field lf c.loop-field.out c.loop-field.count c.args.side c.loop-field.invariant.1)
           (w.added ∙ ap (λ (z : List Node). take c.loop-field.count c.loop-field.out ++ rows_of_level c.args.side (get_or widths c.loop-field.field 0) (c.loop-field.field + 1) 0 z) e),
-      chain_told c.args.levels.now c.requires.1.1.0 c.told-levels c.loop-field.field lf c.loop-field.masks c.level-rows.new.masks c.loop-field.invariant.2
-          (subst (λ (z : List Node). Measured c.level-rows.new.masks (c.loop-field.field * 256) (get_or widths c.loop-field.field 0) z (length z)) e w.told) w.others
+      chain_told c.args.levels.now c.requires.1.1.0 c.told-levels c.loop-field.field lf c.loop-field.masks c.level_rows.new.masks c.loop-field.invariant.2
+          (subst (λ (z : List Node). Measured c.level_rows.new.masks (c.loop-field.field * 256) (get_or widths c.loop-field.field 0) z (length z)) e w.told) w.others
           (λ f l. few_nodes c.args.levels.now c.requires.1.1.0 c.told-levels f l),
     )
 

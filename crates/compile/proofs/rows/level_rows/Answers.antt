@@ -11,8 +11,8 @@ use Rattle.compile.proofs.Slots.{nodes_length}
 use Rattle.compile.proofs.Levelling.{part_more, part_full, level_open, measured_more, others_more}
 use Rattle.compile.proofs.rows.level_rows.Goals as goal
 
-pub node-rows-requires : goal.node-rows-requires
-node-rows-requires c =
+pub node_rows-requires : goal.node_rows-requires
+node_rows-requires c =
     let l : c.loop-node.node < length (nodes_of c.args.level.now) = omega (arith, nodes_length c.args.level.now c.requires.sound) in (
       c.requires.limits.0,
       (
@@ -21,7 +21,7 @@ node-rows-requires c =
           c.requires.limits.1.1,
           (
             c.loop-node.invariant.0,
-            subst (λ (z : Node). Runs (2 ^ c.args.width - 1) 0 z) (sym c.node-edges.ensures) (c.requires.runs c.loop-node.node l),
+            subst (λ (z : Node). Runs (2 ^ c.args.width - 1) 0 z) (sym c.node_edges.ensures) (c.requires.runs c.loop-node.node l),
           ),
         ),
       ),
@@ -30,11 +30,11 @@ node-rows-requires c =
 none_case : (o : Option ℕ) (P : Type 0) (Q : ℕ → Type 0) → o ≡ None → P → MatchOption o P Q
 none_case o P Q e p = subst (λ o. MatchOption o P Q) (sym e) p
 
-pub returns-in-err-written : goal.returns-in-err-written
-returns-in-err-written c =
+pub returns-in_err-written : goal.returns-in_err-written
+returns-in_err-written c =
     let l : c.loop-node.node < length (nodes_of c.args.level.now) = omega (arith, nodes_length c.args.level.now c.requires.sound) in
-    let full = subst (λ (z : Node). length c.loop-node.out < c.loop-node.count + length (rows_of_edge (key c.args.side c.args.number c.loop-node.node) c.args.width 0 z)) c.node-edges.ensures c.in-err-written.ensures in
-    none_case c.from-residual.result _ _ c.from-residual.ensures
+    let full = subst (λ (z : Node). length c.loop-node.out < c.loop-node.count + length (rows_of_edge (key c.args.side c.args.number c.loop-node.node) c.args.width 0 z)) c.node_edges.ensures c.in_err-written.ensures in
+    none_case c.from_residual.result _ _ c.from_residual.ensures
     (part_full c.args.out.now c.loop-node.out c.args.from c.loop-node.count _ _ _
     (level_open c.args.out.now c.loop-node.out c.args.from c.loop-node.count c.args.side c.args.width c.args.number c.loop-node.node (nodes_of c.args.level.now) l c.loop-node.invariant.1)
     full c.loop-node.invariant.0 c.requires.room.0 c.loop-node.auto.out)
@@ -42,14 +42,14 @@ returns-in-err-written c =
 pub loop-node-preserved : goal.loop-node-preserved
 loop-node-preserved c =
     let l : c.loop-node.node < length (nodes_of c.args.level.now) = omega (arith, nodes_length c.args.level.now c.requires.sound) in
-    let w = c.in-ok-written.ensures in (
+    let w = c.in_ok-written.ensures in (
       w.within,
-      part_more c.args.out.now c.loop-node.out c.node-rows.new.out c.args.from c.loop-node.count c.in-ok-written.written.count _ _ _
+      part_more c.args.out.now c.loop-node.out c.node_rows.new.out c.args.from c.loop-node.count c.in_ok-written.written.count _ _ _
           (level_open c.args.out.now c.loop-node.out c.args.from c.loop-node.count c.args.side c.args.width c.args.number c.loop-node.node (nodes_of c.args.level.now) l c.loop-node.invariant.1)
-          (subst (λ (z : Node). take c.in-ok-written.written.count c.node-rows.new.out ≡ take c.loop-node.count c.loop-node.out ++ rows_of_edge (key c.args.side c.args.number c.loop-node.node) c.args.width 0 z) c.node-edges.ensures w.added),
-      measured_more c.loop-node.masks c.args.base c.args.width c.loop-node.node c.in-ok-written.written.lengths (nodes_of c.args.level.now) (omega (arith, c.requires.sound.few, c.requires.room.1, c.loop-node.auto.masks)) c.loop-node.invariant.2
-          (λ n. w.lengths n ∙ ap (λ b. b || occurs (table c.args.width c.node-edges.result.now) n) (zero_bit n) ∙ ap (λ (z : Node). occurs (table c.args.width z) n) c.node-edges.ensures),
-      others_more c.loop-node.masks c.args.masks.now c.args.base c.loop-node.node c.in-ok-written.written.lengths (omega (arith, c.requires.sound.few)) c.loop-node.invariant.3,
+          (subst (λ (z : Node). take c.in_ok-written.written.count c.node_rows.new.out ≡ take c.loop-node.count c.loop-node.out ++ rows_of_edge (key c.args.side c.args.number c.loop-node.node) c.args.width 0 z) c.node_edges.ensures w.added),
+      measured_more c.loop-node.masks c.args.base c.args.width c.loop-node.node c.in_ok-written.written.lengths (nodes_of c.args.level.now) (omega (arith, c.requires.sound.few, c.requires.room.1, c.loop-node.auto.masks)) c.loop-node.invariant.2
+          (λ n. w.lengths n ∙ ap (λ b. b || occurs (table c.args.width c.node_edges.result.now) n) (zero_bit n) ∙ ap (λ (z : Node). occurs (table c.args.width z) n) c.node_edges.ensures),
+      others_more c.loop-node.masks c.args.masks.now c.args.base c.loop-node.node c.in_ok-written.written.lengths (omega (arith, c.requires.sound.few)) c.loop-node.invariant.3,
     )
 
 pub returns : goal.returns

@@ -15,33 +15,33 @@ loop-edge-init c = (
   filled_none c.args.out.now (record { count = c.args.count; lengths = 0 }) (rows_of_edge (key_in c.args.table) c.args.width 0 c.args.edges.now) (table c.args.width c.args.edges.now),
 )
 
-pub overflow-cast-low : goal.overflow-cast-low
-overflow-cast-low c =
+pub overflow_cast-low : goal.overflow_cast-low
+overflow_cast-low c =
     let e = edge_at c.args.width c.loop-edge.low c.loop-edge.edge_index c.args.edges.now c.loop-edge-test.true c.loop-edge.invariant.1 in
     let p : 2 ^ c.args.width ≤ 2 ^ 32 = pow_mono c.requires.0 in
     omega (arith, e.0, e.1)
 
-pub edge-rows-requires : goal.edge-rows-requires
-edge-rows-requires c =
+pub edge_rows-requires : goal.edge_rows-requires
+edge_rows-requires c =
     let e = edge_at c.args.width c.loop-edge.low c.loop-edge.edge_index c.args.edges.now c.loop-edge-test.true c.loop-edge.invariant.1 in
     (c.requires.0, (c.requires.1.0, (c.requires.1.1.0, (c.loop-edge.invariant.0, e.1))))
 
 none_case : (o : Option Written) (P : Type 0) (Q : Written → Type 0) → o ≡ None → P → MatchOption o P Q
 none_case o P Q e p = subst (λ o. MatchOption o P Q) (sym e) p
 
-pub returns-in-err-at : goal.returns-in-err-at
-returns-in-err-at c =
-    none_case c.from-residual.result _ _ c.from-residual.ensures
+pub returns-in_err-at : goal.returns-in_err-at
+returns-in_err-at c =
+    none_case c.from_residual.result _ _ c.from_residual.ensures
     (node_full c.args.out.now c.loop-edge.out (record { count = c.args.count; lengths = 0 }) c.loop-edge.at c.args.table c.args.width c.loop-edge.low c.loop-edge.edge_index
-    c.args.edges.now c.loop-edge-test.true c.loop-edge.invariant.2 c.in-err-at.ensures c.loop-edge.invariant.0 c.requires.1.1.1.0 c.loop-edge.auto.out)
+    c.args.edges.now c.loop-edge-test.true c.loop-edge.invariant.2 c.in_err-at.ensures c.loop-edge.invariant.0 c.requires.1.1.1.0 c.loop-edge.auto.out)
 
 pub loop-edge-preserved : goal.loop-edge-preserved
 loop-edge-preserved c =
     let e = edge_at c.args.width c.loop-edge.low c.loop-edge.edge_index c.args.edges.now c.loop-edge-test.true c.loop-edge.invariant.1 in (
-      c.in-ok-at.ensures.within,
+      c.in_ok-at.ensures.within,
       e.2,
       node_more c.args.out.now c.loop-edge.out (record { count = c.args.count; lengths = 0 }) c.loop-edge.at c.args.table c.args.width c.loop-edge.low c.loop-edge.edge_index
-          c.args.edges.now c.loop-edge-test.true c.loop-edge.invariant.2 c.edge-rows.new.out c.in-ok-at.at c.in-ok-at.ensures,
+          c.args.edges.now c.loop-edge-test.true c.loop-edge.invariant.2 c.edge_rows.new.out c.in_ok-at.at c.in_ok-at.ensures,
     )
 
 pub returns : goal.returns

@@ -8,14 +8,14 @@ use Rattle.policy.proofs.Asked.{list_refused, list_passed}
 use Rattle.policy.proofs.Firsts.{first_told, decided, undecided, none_not_some}
 use Rattle.policy.proofs.plain.first_rule.Goals as goal
 
-pub returns-in-err-check-list : goal.returns-in-err-check-list
-returns-in-err-check-list g c =
-    let p = err_from_is_err_and c.from-residual.result c.from-residual.ensures.1 in
-    let h = c.in-err-check-list.ensures in
+pub returns-in_err-check_list : goal.returns-in_err-check_list
+returns-in_err-check_list g c =
+    let p = err_from_is_err_and c.from_residual.result c.from_residual.ensures.1 in
+    let h = c.in_err-check_list.ensures in
     rw (p.1, p.2)
     (record {
       asked = list_refused (Coded g.K.Kind.of_code) c.args.rules.now (header_asks c.args.rules.now c.args.header.now.numbers)
-          (list_number c.in-err-check-list.field-0.0) h.asked;
+          (list_number c.in_err-check_list.field-0.0) h.asked;
       answers = h.names;
       told = first_told;
     })
@@ -24,7 +24,7 @@ pub returns-then-not-fits : goal.returns-then-not-fits
 returns-then-not-fits g c =
     record {
       asked = list_passed (Coded g.K.Kind.of_code) c.args.rules.now (header_asks c.args.rules.now c.args.header.now.numbers) (Some 12)
-          c.in-ok-check-list.ensures.asked (inr (c.fits.ensures.otherwise c.if-not-fits.true, refl));
+          c.in_ok-check_list.ensures.asked (inr (c.fits.ensures.otherwise c.if-not-fits.true, refl));
       answers = tt;
       told = first_told;
     }
@@ -37,7 +37,7 @@ returns-then-meets g c =
     let fit : Fit widths c.args.header.now.numbers = c.fits.ensures.yes c.if-not-fits.false in
     record {
       asked = list_passed (Coded g.K.Kind.of_code) c.args.rules.now (header_asks c.args.rules.now c.args.header.now.numbers) None
-          c.in-ok-check-list.ensures.asked (inl (fit, inl ((c.loop-i.i, c.loop-i-test.true, met), refl)));
+          c.in_ok-check_list.ensures.asked (inl (fit, inl ((c.loop-i.i, c.loop-i-test.true, met), refl)));
       answers = record { first = first; code = refl; decided = decided c.args.rules.now c.args.header.now.numbers c.loop-i.i first };
       told = first_told;
     }
@@ -48,7 +48,7 @@ returns g c =
     let none : NoneMet c.args.rules.now c.args.header.now.numbers = λ j l. c.loop-i.invariant j (omega arith) in
     record {
       asked = list_passed (Coded g.K.Kind.of_code) c.args.rules.now (header_asks c.args.rules.now c.args.header.now.numbers) (Some 13)
-          c.in-ok-check-list.ensures.asked (inl (fit, inr (none_not_some c.args.rules.now c.args.header.now.numbers none, refl)));
+          c.in_ok-check_list.ensures.asked (inl (fit, inr (none_not_some c.args.rules.now c.args.header.now.numbers none, refl)));
       answers = undecided c.args.rules.now c.args.header.now.numbers none;
       told = first_told;
     }

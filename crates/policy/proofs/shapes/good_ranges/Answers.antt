@@ -6,11 +6,11 @@ use Rattle.policy.specs.Shapes.{shapes}
 use Rattle.policy.proofs.Goods.{good_each, good_at}
 use Rattle.policy.proofs.shapes.good_ranges.Goals as goal
 
-pub returns-then-not-is-good : goal.returns-then-not-is-good
-returns-then-not-is-good c =
+pub returns-then-not-is_good : goal.returns-then-not-is_good
+returns-then-not-is_good c =
     record {
       yes = λ e. absurd (false≢true e);
-      otherwise = λ e good. c.is-good.ensures.otherwise c.if-not-is-good.true (good_at widths shapes c.args.ranges.now Block (record { low = 0; high = 0 }) good c.loop-field.field (omega arith));
+      otherwise = λ e good. c.is_good.ensures.otherwise c.if-not-is_good.true (good_at widths shapes c.args.ranges.now Block (record { low = 0; high = 0 }) good c.loop-field.field (omega arith));
     }
 
 pub returns : goal.returns

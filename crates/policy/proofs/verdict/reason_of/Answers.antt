@@ -14,30 +14,30 @@ returns-in-49 c =
     reason_found c.new-in-49.result (10 + (get_or ds 1 0 - 48)) ds (omega arith)
     (two_digits ds (get_or ds 1 0 - 48) (omega arith) (omega (arith, ltb-true, ltb-false)) (omega arith) (omega arith)) c.new-in-49.ensures
 
-pub returns-in-default : goal.returns-in-default
-returns-in-default c reason e =
+pub returns-in_default : goal.returns-in_default
+returns-in_default c reason e =
     elim (written reason c.args.digits.now e) [ inl w ↦ omega (arith, ltb-true, ltb-false) | inr w ↦ omega (arith, ltb-true, ltb-false) ]
 
-pub returns-in-default·2 : goal.returns-in-default·2
-returns-in-default·2 c reason e =
+pub returns-in_default-2 : goal.returns-in_default-2
+returns-in_default-2 c reason e =
     elim (written reason c.args.digits.now e) [ inl w ↦ omega (arith, ltb-true, ltb-false) | inr w ↦ omega (arith, ltb-true, ltb-false) ]
 
-pub returns-in-default·3 : goal.returns-in-default·3
-returns-in-default·3 c reason e =
+pub returns-in_default-3 : goal.returns-in_default-3
+returns-in_default-3 c reason e =
     elim (written reason c.args.digits.now e) [ inl w ↦ omega (arith, ltb-true, ltb-false) | inr w ↦ omega (arith, ltb-true, ltb-false) ]
 
-pub returns-in-default·4 : goal.returns-in-default·4
-returns-in-default·4 c reason e =
+pub returns-in_default-4 : goal.returns-in_default-4
+returns-in_default-4 c reason e =
     elim (written reason c.args.digits.now e) [ inl w ↦ omega (arith, ltb-true, ltb-false) | inr w ↦ omega (arith, ltb-true, ltb-false) ]
 
-pub returns-in-default·5 : goal.returns-in-default·5
-returns-in-default·5 c reason e =
+pub returns-in_default-5 : goal.returns-in_default-5
+returns-in_default-5 c reason e =
     elim (written reason c.args.digits.now e) [ inl w ↦ omega (arith, ltb-true, ltb-false) | inr w ↦ omega (arith, ltb-true, ltb-false) ]
 
-pub returns-in-default·6 : goal.returns-in-default·6
-returns-in-default·6 c reason e =
+pub returns-in_default-6 : goal.returns-in_default-6
+returns-in_default-6 c reason e =
     elim (written reason c.args.digits.now e) [ inl w ↦ omega (arith, ltb-true, ltb-false) | inr w ↦ omega (arith, ltb-true, ltb-false) ]
 
-pub returns-in-default·7 : goal.returns-in-default·7
-returns-in-default·7 c reason e =
+pub returns-in_default-7 : goal.returns-in_default-7
+returns-in_default-7 c reason e =
     elim (written reason c.args.digits.now e) [ inl w ↦ omega (arith, ltb-true, ltb-false) | inr w ↦ omega (arith, ltb-true, ltb-false) ]

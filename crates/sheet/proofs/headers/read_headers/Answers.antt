@@ -7,8 +7,8 @@ use Rattle.sheet.proofs.MeansRead.{settled, single_meaning}
 use Rattle.sheet.proofs.Turns.{too_long, not_too_long}
 use Rattle.sheet.proofs.headers.read_headers.Goals as goal
 
-pub returns-then-sheet-gt-LONGEST-SHEET : goal.returns-then-sheet-gt-LONGEST-SHEET
-returns-then-sheet-gt-LONGEST-SHEET c =
+pub returns-then-sheet-gt-LONGEST_SHEET : goal.returns-then-sheet-gt-LONGEST_SHEET
+returns-then-sheet-gt-LONGEST_SHEET c =
     let a = too_long header_at c.args.sheet.now c.args.places.now (omega arith) in
     record {
       answers = a;
@@ -18,9 +18,9 @@ returns-then-sheet-gt-LONGEST-SHEET c =
 
 pub returns : goal.returns
 returns c =
-    let a = not_too_long header_at c.args.sheet.now c.args.places.now c.read-header-lines.new.places c.read-header-lines.result (omega arith) c.read-header-lines.ensures in
+    let a = not_too_long header_at c.args.sheet.now c.args.places.now c.read_header_lines.new.places c.read_header_lines.result (omega arith) c.read_header_lines.ensures in
     record {
       answers = a;
-      settles = settled HeaderLine header_at c.args.sheet.now c.args.places.now c.read-header-lines.new.places c.read-header-lines.result headers_found headers_only a;
+      settles = settled HeaderLine header_at c.args.sheet.now c.args.places.now c.read_header_lines.new.places c.read_header_lines.result headers_found headers_only a;
       one = single_meaning HeaderLine header_at headers_found c.args.sheet.now;
     }

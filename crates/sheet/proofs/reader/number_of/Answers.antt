@@ -5,14 +5,14 @@ use Rattle.std.proofs.lemmas.List.{take_all}
 use Rattle.sheet.proofs.Taking.{partial, digit_is, digit_of}
 use Rattle.sheet.proofs.reader.number_of.Goals as goal
 
-pub overflow-mul-n : goal.overflow-mul-n
-overflow-mul-n c = omega (arith, c.loop-b.invariant, partial c.args.digits.now c.loop-b.b-index c.requires.0 c.requires.1 c.loop-b-test.true)
+pub overflow_mul-n : goal.overflow_mul-n
+overflow_mul-n c = omega (arith, c.loop-b.invariant, partial c.args.digits.now c.loop-b.b-index c.requires.0 c.requires.1 c.loop-b-test.true)
 
-pub overflow-sub-b : goal.overflow-sub-b
-overflow-sub-b c = omega (arith, digit_is (get_or c.args.digits.now c.loop-b.b-index 0) (digit_of c.args.digits.now c.loop-b.b-index c.requires.1 c.loop-b-test.true))
+pub overflow_sub-b : goal.overflow_sub-b
+overflow_sub-b c = omega (arith, digit_is (get_or c.args.digits.now c.loop-b.b-index 0) (digit_of c.args.digits.now c.loop-b.b-index c.requires.1 c.loop-b-test.true))
 
-pub overflow-add-n : goal.overflow-add-n
-overflow-add-n c =
+pub overflow_add-n : goal.overflow_add-n
+overflow_add-n c =
     let d = digit_of c.args.digits.now c.loop-b.b-index c.requires.1 c.loop-b-test.true in
     omega (arith, c.loop-b.invariant, digit_is (get_or c.args.digits.now c.loop-b.b-index 0) d, d, partial c.args.digits.now c.loop-b.b-index c.requires.0 c.requires.1 c.loop-b-test.true)
 

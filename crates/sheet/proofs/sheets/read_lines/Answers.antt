@@ -4,10 +4,10 @@ use Rattle.sheet.specs.Sheets.{coded, line_at}
 use Rattle.sheet.proofs.Turns.{exit_place, exit_feed, exit_line, exit_clean, again, dropped}
 use Rattle.sheet.proofs.sheets.read_lines.Goals as goal
 
-pub returns-then-count-ge-MOST-LINES : goal.returns-then-count-ge-MOST-LINES
-returns-then-count-ge-MOST-LINES g c =
+pub returns-then-count-ge-MOST_LINES : goal.returns-then-count-ge-MOST_LINES
+returns-then-count-ge-MOST_LINES g c =
     let z : min (length c.args.places.now) 64 - c.loop-reader.count ≡ 0 =
-    elim c.then-count-ge-MOST-LINES.either [ inl a ↦ omega (arith, a) | inr a ↦ omega (arith, a.1, c.loop-reader.auto.places) ] in
+    elim c.then-count-ge-MOST_LINES.either [ inl a ↦ omega (arith, a) | inr a ↦ omega (arith, a.1, c.loop-reader.auto.places) ] in
     exit_place (line_at (coded g.K.Kind.of_word g.K.Kind.code_of)) c.args.sheet.now c.loop-reader.reader.sheet.now c.args.places.now c.loop-reader.places c.loop-reader.count c.loop-reader.reader.at c.loop-reader.reader.spot.line
     c.loop-reader.invariant.1 c.loop-reader.invariant.2 c.loop-reader.invariant.3 c.loop-reader.auto.places c.loop-reader.invariant.4 c.loop-reader.invariant.5
     c.loop-reader-test.true z
@@ -18,13 +18,13 @@ returns-then-feed-sheet g c =
     c.loop-reader.invariant.1 c.loop-reader.invariant.2 c.loop-reader.invariant.3 c.loop-reader.auto.places c.loop-reader.invariant.4 c.loop-reader.invariant.5
     c.loop-reader-test.true (omega (arith, c.loop-reader.auto.places)) (omega (arith, c.feed.ensures.0))
 
-pub returns-in-err-rule : goal.returns-in-err-rule
-returns-in-err-rule g c =
-    let q = err_from_is_err_and c.from-residual.result c.from-residual.ensures.1 in
+pub returns-in_err-rule : goal.returns-in_err-rule
+returns-in_err-rule g c =
+    let q = err_from_is_err_and c.from_residual.result c.from_residual.ensures.1 in
     rw (q.1, q.2)
     (exit_line (line_at (coded g.K.Kind.of_word g.K.Kind.code_of)) c.args.sheet.now c.loop-reader.reader.sheet.now c.args.places.now c.loop-reader.places c.loop-reader.count c.loop-reader.reader.at c.loop-reader.reader.spot.line
-    c.loop-reader.invariant.1 c.loop-reader.invariant.2 c.loop-reader.invariant.3 c.loop-reader.auto.places c.loop-reader.invariant.4 c.loop-reader.invariant.5 c.in-err-rule.field-0.0
-    c.loop-reader-test.true (omega (arith, c.loop-reader.auto.places)) (omega (arith, c.feed.ensures.0)) c.in-err-rule.ensures.tells)
+    c.loop-reader.invariant.1 c.loop-reader.invariant.2 c.loop-reader.invariant.3 c.loop-reader.auto.places c.loop-reader.invariant.4 c.loop-reader.invariant.5 c.in_err-rule.field-0.0
+    c.loop-reader-test.true (omega (arith, c.loop-reader.auto.places)) (omega (arith, c.feed.ensures.0)) c.in_err-rule.ensures.tells)
 
 pub loop-reader-preserved : goal.loop-reader-preserved
 loop-reader-preserved g c =
@@ -33,10 +33,10 @@ loop-reader-preserved g c =
       e,
       refl,
       omega (arith, c.loop-reader.auto.places),
-      dropped c.loop-reader.places c.args.places.now c.loop-reader.count c.in-ok-rule.rule c.loop-reader.invariant.4,
+      dropped c.loop-reader.places c.args.places.now c.loop-reader.count c.in_ok-rule.rule c.loop-reader.invariant.4,
       again (line_at (coded g.K.Kind.of_word g.K.Kind.code_of)) c.args.sheet.now c.loop-reader.reader.sheet.now c.args.places.now c.loop-reader.places c.loop-reader.count c.loop-reader.reader.at c.loop-reader.reader.spot.line
-          c.loop-reader.invariant.1 c.loop-reader.invariant.2 c.loop-reader.invariant.3 c.loop-reader.auto.places c.loop-reader.invariant.4 c.loop-reader.invariant.5 c.in-ok-rule.rule c.line.new.self.at
-          c.loop-reader-test.true (omega (arith, c.loop-reader.auto.places)) (omega (arith, c.feed.ensures.0)) c.in-ok-rule.ensures.tells,
+          c.loop-reader.invariant.1 c.loop-reader.invariant.2 c.loop-reader.invariant.3 c.loop-reader.auto.places c.loop-reader.invariant.4 c.loop-reader.invariant.5 c.in_ok-rule.rule c.line.new.self.at
+          c.loop-reader-test.true (omega (arith, c.loop-reader.auto.places)) (omega (arith, c.feed.ensures.0)) c.in_ok-rule.ensures.tells,
     )
 
 pub returns : goal.returns

@@ -7,8 +7,8 @@ use Rattle.sheet.proofs.Refused.{refused_rightly}
 use Rattle.sheet.proofs.Turns.{too_long, not_too_long}
 use Rattle.sheet.proofs.sheets.read_rules.Goals as goal
 
-pub returns-then-sheet-gt-LONGEST-SHEET : goal.returns-then-sheet-gt-LONGEST-SHEET
-returns-then-sheet-gt-LONGEST-SHEET g c =
+pub returns-then-sheet-gt-LONGEST_SHEET : goal.returns-then-sheet-gt-LONGEST_SHEET
+returns-then-sheet-gt-LONGEST_SHEET g c =
     let code = coded g.K.Kind.of_word g.K.Kind.code_of in
     let worded : Worded code = kind_worded g.K.Kind.of_word g.K.Kind.code_of g.K.Kind.word_of g.met.K.Kind.word_alone g.met.K.Kind.proper in
     let a = too_long (line_at code) c.args.sheet.now c.args.places.now (omega arith) in
@@ -23,10 +23,10 @@ pub returns : goal.returns
 returns g c =
     let code = coded g.K.Kind.of_word g.K.Kind.code_of in
     let worded : Worded code = kind_worded g.K.Kind.of_word g.K.Kind.code_of g.K.Kind.word_of g.met.K.Kind.word_alone g.met.K.Kind.proper in
-    let a = not_too_long (line_at code) c.args.sheet.now c.args.places.now c.read-lines.new.places c.read-lines.result (omega arith) c.read-lines.ensures in
+    let a = not_too_long (line_at code) c.args.sheet.now c.args.places.now c.read_lines.new.places c.read_lines.result (omega arith) c.read_lines.ensures in
     record {
       answers = a;
-      settles = settled (Line code) (line_at code) c.args.sheet.now c.args.places.now c.read-lines.new.places c.read-lines.result (rules_found code worded) (rules_only code) a;
-      refusals = refused_rightly code c.args.sheet.now c.args.places.now c.read-lines.new.places c.read-lines.result a;
+      settles = settled (Line code) (line_at code) c.args.sheet.now c.args.places.now c.read_lines.new.places c.read_lines.result (rules_found code worded) (rules_only code) a;
+      refusals = refused_rightly code c.args.sheet.now c.args.places.now c.read_lines.new.places c.read_lines.result a;
       one = single_meaning (Line code) (line_at code) (rules_found code worded) c.args.sheet.now;
     }

@@ -12,8 +12,8 @@ returns-in-1 c = code_found c.args.code Discard (omega arith)
 pub returns-in-Some : goal.returns-in-Some
 returns-in-Some c = code_found c.args.code (Reject c.in-Some.reason) (omega (arith, c.in-Some.ensures))
 
-pub returns-in-default : goal.returns-in-default
-returns-in-default c = code_of_no_verdict c.args.code (λ e. omega arith) (λ e. omega arith) (λ l. omega arith)
+pub returns-in_default : goal.returns-in_default
+returns-in_default c = code_of_no_verdict c.args.code (λ e. omega arith) (λ e. omega arith) (λ l. omega arith)
 
-pub returns-in-default·2 : goal.returns-in-default·2
-returns-in-default·2 c = code_of_no_verdict c.args.code (λ e. omega arith) (λ e. omega arith) (λ l. omega arith)
+pub returns-in_default-2 : goal.returns-in_default-2
+returns-in_default-2 c = code_of_no_verdict c.args.code (λ e. omega arith) (λ e. omega arith) (λ l. omega arith)

@@ -9,35 +9,35 @@ use Rattle.policy.specs.Verdicting.{word_found, word_of_no_verdict}
 use Rattle.policy.proofs.verdict.VerdictKind.from_word.Goals as goal
 use Rattle.std.proofs.lemmas.Bool.Decides.{Decides-eqb}
 
--- A test that failed.
-differs : {P : Type 0} (r : Bool) → Decides r P → r ≡ false → P → ⊥
-differs r d e p = both_ways r e (d.1 p)
+-- A test that failed, of bytes that a slice holds.
+differs : {xs ys zs : List ℕ} (r : Bool) → Decides r (xs ≡ ys) → ys ≡ zs → r ≡ false → xs ≡ zs → ⊥
+differs r d same e p = both_ways r e (d.1 (p ∙ sym same))
 
 pub returns-then-eq : goal.returns-then-eq
-returns-then-eq c = word_found c.args.bytes.now Accept (sym ((slice_eq-Decides Decides-eqb _ _ _ c.eq.ensures).0 c.if-eq.true))
+returns-then-eq c = word_found c.args.bytes.now Accept (sym ((slice_eq-Decides Decides-eqb _ _ _ c.eq.ensures).0 c.if-eq.true ∙ c.as_slice.ensures))
 
 pub returns-then-eq-2 : goal.returns-then-eq-2
-returns-then-eq-2 c = word_found c.args.bytes.now Discard (sym ((slice_eq-Decides Decides-eqb _ _ _ c.eq-2.ensures).0 c.if-eq-2.true))
+returns-then-eq-2 c = word_found c.args.bytes.now Discard (sym ((slice_eq-Decides Decides-eqb _ _ _ c.eq-2.ensures).0 c.if-eq-2.true ∙ c.as_slice-2.ensures))
 
-pub returns-in-err-strip-prefix : goal.returns-in-err-strip-prefix
-returns-in-err-strip-prefix c =
-    let other = MatchOption-at_none _ _ c.in-err-strip-prefix.was (strip_prefix_is Decides-eqb c.args.bytes.now (codes "reject-") c.strip-prefix.result c.strip-prefix.ensures.cases) in
-    c.from-residual.ensures
+pub returns-in_err-strip_prefix : goal.returns-in_err-strip_prefix
+returns-in_err-strip_prefix c =
+    let other = MatchOption-at_none _ _ c.in_err-strip_prefix.was (strip_prefix_is Decides-eqb c.args.bytes.now (codes "reject-") c.strip_prefix.result c.strip_prefix.ensures.cases) in
+    c.from_residual.ensures
     ∙ word_of_no_verdict c.args.bytes.now
-    (differs c.eq.result (slice_eq-Decides Decides-eqb _ _ _ c.eq.ensures) c.if-eq.false)
-    (differs c.eq-2.result (slice_eq-Decides Decides-eqb _ _ _ c.eq-2.ensures) c.if-eq-2.false)
+    (differs c.eq.result (slice_eq-Decides Decides-eqb _ _ _ c.eq.ensures) c.as_slice.ensures c.if-eq.false)
+    (differs c.eq-2.result (slice_eq-Decides Decides-eqb _ _ _ c.eq-2.ensures) c.as_slice-2.ensures c.if-eq-2.false)
     (λ reason e. other (decimal reason.n) e)
 
 pub returns-in-Some : goal.returns-in-Some
 returns-in-Some c =
-    let front = MatchOption-at_some _ _ c.in-ok-strip-prefix.field-0 c.in-ok-strip-prefix.was (strip_prefix_is Decides-eqb c.args.bytes.now (codes "reject-") c.strip-prefix.result c.strip-prefix.ensures.cases) in
+    let front = MatchOption-at_some _ _ c.in_ok-strip_prefix.field-0 c.in_ok-strip_prefix.was (strip_prefix_is Decides-eqb c.args.bytes.now (codes "reject-") c.strip_prefix.result c.strip_prefix.ensures.cases) in
     word_found c.args.bytes.now (Reject c.in-Some.reason)
     (ap (λ (ds : List ℕ). codes "reject-" ++ ds) c.in-Some.ensures ∙ sym front)
 
 pub returns-in-None : goal.returns-in-None
 returns-in-None c =
-    let front = MatchOption-at_some _ _ c.in-ok-strip-prefix.field-0 c.in-ok-strip-prefix.was (strip_prefix_is Decides-eqb c.args.bytes.now (codes "reject-") c.strip-prefix.result c.strip-prefix.ensures.cases) in
+    let front = MatchOption-at_some _ _ c.in_ok-strip_prefix.field-0 c.in_ok-strip_prefix.was (strip_prefix_is Decides-eqb c.args.bytes.now (codes "reject-") c.strip_prefix.result c.strip_prefix.ensures.cases) in
     word_of_no_verdict c.args.bytes.now
-    (differs c.eq.result (slice_eq-Decides Decides-eqb _ _ _ c.eq.ensures) c.if-eq.false)
-    (differs c.eq-2.result (slice_eq-Decides Decides-eqb _ _ _ c.eq-2.ensures) c.if-eq-2.false)
-    (λ reason e. c.in-None.ensures reason (append_cancel_left (codes "reject-") (decimal reason.n) c.in-ok-strip-prefix.field-0.now (sym e ∙ front)))
+    (differs c.eq.result (slice_eq-Decides Decides-eqb _ _ _ c.eq.ensures) c.as_slice.ensures c.if-eq.false)
+    (differs c.eq-2.result (slice_eq-Decides Decides-eqb _ _ _ c.eq-2.ensures) c.as_slice-2.ensures c.if-eq-2.false)
+    (λ reason e. c.in-None.ensures reason (append_cancel_left (codes "reject-") (decimal reason.n) c.in_ok-strip_prefix.field-0.now (sym e ∙ front)))

@@ -18,13 +18,13 @@ loop-i-preserved c = (
   below_more _ _ c.loop-i.invariant.3 c.if-byte-eq10.false,
 )
 
-pub invariant-of-result : goal.invariant-of-result
-invariant-of-result c =
+pub invariant_of-result : goal.invariant_of-result
+invariant_of-result c =
     let text = c.args.text.now in
     let same : take (length text) c.loop-i.bytes ≡ text = copied c.loop-i.bytes text c.loop-i.i (omega arith) c.loop-i.invariant.1 in
-    let some : length text ≡ 0 → ⊥ = eqb-false (length text) 0 (sym c.if-is-empty.ensures) in
+    let some : length text ≡ 0 → ⊥ = eqb-false (length text) 0 (sym c.if-is_empty.ensures) in
     let word : IsWord text = (omega arith, omega arith, λ k l. c.loop-i.invariant.2 k (omega arith), λ k l. c.loop-i.invariant.3 k (omega arith)) in
-    (omega arith, (subst IsWord (sym same) word, tt))
+    record { within = omega arith; proper = subst IsWord (sym same) word }
 
 pub returns : goal.returns
 returns c = copied c.loop-i.bytes c.args.text.now c.loop-i.i (omega arith) c.loop-i.invariant.1

@@ -5,41 +5,41 @@ use Rattle.sheet.specs.Forms.{Read, fault, digits, the, walk, noted}
 use Rattle.sheet.proofs.Walks.{pair_got, pair_fault, last_pair}
 use Rattle.sheet.proofs.reader.Reader.four.Goals as goal
 
-pub returns-in-err-b : goal.returns-in-err-b
-returns-in-err-b c =
-    let q = err_from_is_err_and c.from-residual-in-err-b.result c.from-residual-in-err-b.ensures.1 in
+pub returns-in_err-b : goal.returns-in_err-b
+returns-in_err-b c =
+    let q = err_from_is_err_and c.from_residual-in_err-b.result c.from_residual-in_err-b.ensures.1 in
     record {
       same = c.number-mark-2.ensures.same ∙ c.number-mark.ensures.same;
       stays = c.number-mark-2.ensures.stays ∙ c.number-mark.ensures.stays;
       within = subst (λ (l : List ℕ). c.number-mark-2.new.self.at ≤ length l) c.number-mark.ensures.same c.number-mark-2.ensures.within;
       tells = rw (q.1, q.2)
-          (pair_got 6 digits (the Dot) digits (the Dot ∷ digits ∷ the Dot ∷ digits ∷ the Comma ∷ []) c.args.self.now.sheet.now c.args.self.now.sheet.now c.args.self.now.spot c.args.self.now.spot c.args.self.now.at refl refl (c.in-ok-a.a ∷ []) c.number-mark.new.self.at c.in-ok-a.ensures.tells
-          ∙ ap (noted (c.in-ok-a.a ∷ [])) (pair_fault 4 digits (the Dot) digits (the Dot ∷ digits ∷ the Comma ∷ []) c.args.self.now.sheet.now c.number-mark.new.self.sheet.now c.args.self.now.spot c.number-mark.new.self.spot c.number-mark.new.self.at c.number-mark.ensures.same c.number-mark.ensures.stays c.in-err-b.field-0.0 c.in-err-b.ensures.tells));
+          (pair_got 6 digits (the Dot) digits (the Dot ∷ digits ∷ the Dot ∷ digits ∷ the Comma ∷ []) c.args.self.now.sheet.now c.args.self.now.sheet.now c.args.self.now.spot c.args.self.now.spot c.args.self.now.at refl refl (c.in_ok-a.a ∷ []) c.number-mark.new.self.at c.in_ok-a.ensures.tells
+          ∙ ap (noted (c.in_ok-a.a ∷ [])) (pair_fault 4 digits (the Dot) digits (the Dot ∷ digits ∷ the Comma ∷ []) c.args.self.now.sheet.now c.number-mark.new.self.sheet.now c.args.self.now.spot c.number-mark.new.self.spot c.number-mark.new.self.at c.number-mark.ensures.same c.number-mark.ensures.stays c.in_err-b.field-0.0 c.in_err-b.ensures.tells));
     }
 
-pub returns-in-err-c : goal.returns-in-err-c
-returns-in-err-c c =
-    let q = err_from_is_err_and c.from-residual-in-err-c.result c.from-residual-in-err-c.ensures.1 in
+pub returns-in_err-c : goal.returns-in_err-c
+returns-in_err-c c =
+    let q = err_from_is_err_and c.from_residual-in_err-c.result c.from_residual-in_err-c.ensures.1 in
     record {
       same = c.number-mark-3.ensures.same ∙ c.number-mark-2.ensures.same ∙ c.number-mark.ensures.same;
       stays = c.number-mark-3.ensures.stays ∙ c.number-mark-2.ensures.stays ∙ c.number-mark.ensures.stays;
       within = subst (λ (l : List ℕ). c.number-mark-3.new.self.at ≤ length l) (c.number-mark-2.ensures.same ∙ c.number-mark.ensures.same) c.number-mark-3.ensures.within;
       tells = rw (q.1, q.2)
-          (pair_got 6 digits (the Dot) digits (the Dot ∷ digits ∷ the Dot ∷ digits ∷ the Comma ∷ []) c.args.self.now.sheet.now c.args.self.now.sheet.now c.args.self.now.spot c.args.self.now.spot c.args.self.now.at refl refl (c.in-ok-a.a ∷ []) c.number-mark.new.self.at c.in-ok-a.ensures.tells
-          ∙ ap (noted (c.in-ok-a.a ∷ [])) (pair_got 4 digits (the Dot) digits (the Dot ∷ digits ∷ the Comma ∷ []) c.args.self.now.sheet.now c.number-mark.new.self.sheet.now c.args.self.now.spot c.number-mark.new.self.spot c.number-mark.new.self.at c.number-mark.ensures.same c.number-mark.ensures.stays (c.in-ok-b.b ∷ []) c.number-mark-2.new.self.at c.in-ok-b.ensures.tells
-          ∙ ap (noted (c.in-ok-b.b ∷ [])) (pair_fault 2 digits (the Dot) digits (the Comma ∷ []) c.args.self.now.sheet.now c.number-mark-2.new.self.sheet.now c.args.self.now.spot c.number-mark-2.new.self.spot c.number-mark-2.new.self.at (c.number-mark-2.ensures.same ∙ c.number-mark.ensures.same) (c.number-mark-2.ensures.stays ∙ c.number-mark.ensures.stays) c.in-err-c.field-0.0 c.in-err-c.ensures.tells)));
+          (pair_got 6 digits (the Dot) digits (the Dot ∷ digits ∷ the Dot ∷ digits ∷ the Comma ∷ []) c.args.self.now.sheet.now c.args.self.now.sheet.now c.args.self.now.spot c.args.self.now.spot c.args.self.now.at refl refl (c.in_ok-a.a ∷ []) c.number-mark.new.self.at c.in_ok-a.ensures.tells
+          ∙ ap (noted (c.in_ok-a.a ∷ [])) (pair_got 4 digits (the Dot) digits (the Dot ∷ digits ∷ the Comma ∷ []) c.args.self.now.sheet.now c.number-mark.new.self.sheet.now c.args.self.now.spot c.number-mark.new.self.spot c.number-mark.new.self.at c.number-mark.ensures.same c.number-mark.ensures.stays (c.in_ok-b.b ∷ []) c.number-mark-2.new.self.at c.in_ok-b.ensures.tells
+          ∙ ap (noted (c.in_ok-b.b ∷ [])) (pair_fault 2 digits (the Dot) digits (the Comma ∷ []) c.args.self.now.sheet.now c.number-mark-2.new.self.sheet.now c.args.self.now.spot c.number-mark-2.new.self.spot c.number-mark-2.new.self.at (c.number-mark-2.ensures.same ∙ c.number-mark.ensures.same) (c.number-mark-2.ensures.stays ∙ c.number-mark.ensures.stays) c.in_err-c.field-0.0 c.in_err-c.ensures.tells)));
     }
 
-pub returns-in-err-d : goal.returns-in-err-d
-returns-in-err-d c =
-    let q = err_from_is_err_and c.from-residual-in-err-d.result c.from-residual-in-err-d.ensures.1 in
+pub returns-in_err-d : goal.returns-in_err-d
+returns-in_err-d c =
+    let q = err_from_is_err_and c.from_residual-in_err-d.result c.from_residual-in_err-d.ensures.1 in
     record {
       same = c.number-mark-4.ensures.same ∙ c.number-mark-3.ensures.same ∙ c.number-mark-2.ensures.same ∙ c.number-mark.ensures.same;
       stays = c.number-mark-4.ensures.stays ∙ c.number-mark-3.ensures.stays ∙ c.number-mark-2.ensures.stays ∙ c.number-mark.ensures.stays;
       within = subst (λ (l : List ℕ). c.number-mark-4.new.self.at ≤ length l) (c.number-mark-3.ensures.same ∙ c.number-mark-2.ensures.same ∙ c.number-mark.ensures.same) c.number-mark-4.ensures.within;
       tells = rw (q.1, q.2)
-          (pair_got 6 digits (the Dot) digits (the Dot ∷ digits ∷ the Dot ∷ digits ∷ the Comma ∷ []) c.args.self.now.sheet.now c.args.self.now.sheet.now c.args.self.now.spot c.args.self.now.spot c.args.self.now.at refl refl (c.in-ok-a.a ∷ []) c.number-mark.new.self.at c.in-ok-a.ensures.tells
-          ∙ ap (noted (c.in-ok-a.a ∷ [])) (pair_got 4 digits (the Dot) digits (the Dot ∷ digits ∷ the Comma ∷ []) c.args.self.now.sheet.now c.number-mark.new.self.sheet.now c.args.self.now.spot c.number-mark.new.self.spot c.number-mark.new.self.at c.number-mark.ensures.same c.number-mark.ensures.stays (c.in-ok-b.b ∷ []) c.number-mark-2.new.self.at c.in-ok-b.ensures.tells
-          ∙ ap (noted (c.in-ok-b.b ∷ [])) (pair_got 2 digits (the Dot) digits (the Comma ∷ []) c.args.self.now.sheet.now c.number-mark-2.new.self.sheet.now c.args.self.now.spot c.number-mark-2.new.self.spot c.number-mark-2.new.self.at (c.number-mark-2.ensures.same ∙ c.number-mark.ensures.same) (c.number-mark-2.ensures.stays ∙ c.number-mark.ensures.stays) (c.in-ok-c.c ∷ []) c.number-mark-3.new.self.at c.in-ok-c.ensures.tells
-          ∙ ap (noted (c.in-ok-c.c ∷ [])) (last_pair digits (the Comma) c.args.self.now.sheet.now c.number-mark-3.new.self.sheet.now c.args.self.now.spot c.number-mark-3.new.self.spot c.number-mark-3.new.self.at (c.number-mark-3.ensures.same ∙ c.number-mark-2.ensures.same ∙ c.number-mark.ensures.same) (c.number-mark-3.ensures.stays ∙ c.number-mark-2.ensures.stays ∙ c.number-mark.ensures.stays) (fault c.in-err-d.field-0.0) c.in-err-d.ensures.tells))));
+          (pair_got 6 digits (the Dot) digits (the Dot ∷ digits ∷ the Dot ∷ digits ∷ the Comma ∷ []) c.args.self.now.sheet.now c.args.self.now.sheet.now c.args.self.now.spot c.args.self.now.spot c.args.self.now.at refl refl (c.in_ok-a.a ∷ []) c.number-mark.new.self.at c.in_ok-a.ensures.tells
+          ∙ ap (noted (c.in_ok-a.a ∷ [])) (pair_got 4 digits (the Dot) digits (the Dot ∷ digits ∷ the Comma ∷ []) c.args.self.now.sheet.now c.number-mark.new.self.sheet.now c.args.self.now.spot c.number-mark.new.self.spot c.number-mark.new.self.at c.number-mark.ensures.same c.number-mark.ensures.stays (c.in_ok-b.b ∷ []) c.number-mark-2.new.self.at c.in_ok-b.ensures.tells
+          ∙ ap (noted (c.in_ok-b.b ∷ [])) (pair_got 2 digits (the Dot) digits (the Comma ∷ []) c.args.self.now.sheet.now c.number-mark-2.new.self.sheet.now c.args.self.now.spot c.number-mark-2.new.self.spot c.number-mark-2.new.self.at (c.number-mark-2.ensures.same ∙ c.number-mark.ensures.same) (c.number-mark-2.ensures.stays ∙ c.number-mark.ensures.stays) (c.in_ok-c.c ∷ []) c.number-mark-3.new.self.at c.in_ok-c.ensures.tells
+          ∙ ap (noted (c.in_ok-c.c ∷ [])) (last_pair digits (the Comma) c.args.self.now.sheet.now c.number-mark-3.new.self.sheet.now c.args.self.now.spot c.number-mark-3.new.self.spot c.number-mark-3.new.self.at (c.number-mark-3.ensures.same ∙ c.number-mark-2.ensures.same ∙ c.number-mark.ensures.same) (c.number-mark-3.ensures.stays ∙ c.number-mark-2.ensures.stays ∙ c.number-mark.ensures.stays) (fault c.in_err-d.field-0.0) c.in_err-d.ensures.tells))));
     }

@@ -18,10 +18,10 @@ returns-after-end-sheet g c =
       within = omega (arith, end);
       tells =
           line_word g.K.Kind.of_word g.K.Kind.code_of c.args.self.now.sheet.now c.ranges-2.new.self.sheet.now c.args.self.now.spot.line c.args.self.now.at
-          c.ranges-2.new.self.at c.feed-end.result c.in-ok-ranges.ranges (Some c.in-Some.d) c.ranges-2.ensures.same
-          c.in-ok-ranges.ensures.tells c.feed-end.ensures.0 c.in-Some.ensures
-          ∙ ap (λ (n : ℕ). good (record { ranges = c.in-ok-ranges.ranges; code = n }) (min (c.feed-end.result + 1) (length c.args.self.now.sheet.now))) (sym c.code.ensures)
-          ∙ ap (good (record { ranges = c.in-ok-ranges.ranges; code = c.code.result })) (sym end);
+          c.ranges-2.new.self.at c.feed-end.result c.in_ok-ranges.ranges (Some c.in-Some.d) c.ranges-2.ensures.same
+          c.in_ok-ranges.ensures.tells c.feed-end.ensures.0 c.in-Some.ensures
+          ∙ ap (λ (n : ℕ). good (record { ranges = c.in_ok-ranges.ranges; code = n }) (min (c.feed-end.result + 1) (length c.args.self.now.sheet.now))) (sym c.code.ensures)
+          ∙ ap (good (record { ranges = c.in_ok-ranges.ranges; code = c.code.result })) (sym end);
     }
 
 pub returns-in-None : goal.returns-in-None
@@ -32,7 +32,7 @@ returns-in-None g c =
       within = c.ranges-2.ensures.within;
       tells =
           line_word g.K.Kind.of_word g.K.Kind.code_of c.args.self.now.sheet.now c.ranges-2.new.self.sheet.now c.args.self.now.spot.line c.args.self.now.at
-          c.ranges-2.new.self.at c.feed-end.result c.in-ok-ranges.ranges None c.ranges-2.ensures.same
-          c.in-ok-ranges.ensures.tells c.feed-end.ensures.0 c.in-None.ensures
+          c.ranges-2.new.self.at c.feed-end.result c.in_ok-ranges.ranges None c.ranges-2.ensures.same
+          c.in_ok-ranges.ensures.tells c.feed-end.ensures.0 c.in-None.ensures
           ∙ ap (λ (l : ℕ). bad (NoWord c.ranges-2.new.self.at (spot l 6))) (sym c.ranges-2.ensures.stays);
     }
