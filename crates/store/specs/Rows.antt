@@ -1,5 +1,5 @@
 -- Rows, and what they say of a key.
-use Rattle.std.specs.Prelude.{◌≡◌, ℕ, ◌<◌, cond, List, [], ◌∷◌, length, Some, None, Option, ◌==◌, ◌≢◌, slice_index_or}
+use Rattle.std.specs.Prelude.{ℕ, ◌<◌, cond, List, [], ◌∷◌, length, Some, None, Option, ◌==◌, ◌≢◌, slice_index_or}
 use Rattle.store.specs.declared.row.Row.{Row}
 
 -- The result that the rows hold for a key: that of the first row with the key.

@@ -24,14 +24,14 @@ returns-in-Found c =
     let r : InOrder c.args.self.now → Removed f g m i =
     λ k. subst R c.usable-m.ensures c.remove.ensures.removed (ready f g m n i q k.cells s.0 s.1 s.2) in
     let S : ℕ → Type 0 = λ j. Sound g m j in
-    let T : ℕ → Type 0 = λ j. Sound g j c.saturating-sub-self.result in
+    let T : ℕ → Type 0 = λ j. Sound g j c.saturating_sub-self.result in
     let F : ℕ → Type 0 = λ j. (p : ℕ) → find (rows_of g j) p ≡ cond (eqb p q) None (find (rows_of f m) p) in
     let H : ℕ → Type 0 = λ j. length (rows_of g j) + 1 ≡ length (rows_of f m) in
     record {
       sound =
           λ k.
           record {
-            cells = subst T (sym long) (subst S (sym c.saturating-sub-self.ensures) (removed_sound f g m n i q k.cells s.0 s.1 s.2 (r k)));
+            cells = subst T (sym long) (subst S (sym c.saturating_sub-self.ensures) (removed_sound f g m n i q k.cells s.0 s.1 s.2 (r k)));
             counts = k.counts;
           };
       erased =

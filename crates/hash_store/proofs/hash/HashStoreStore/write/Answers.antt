@@ -46,10 +46,10 @@ returns-in-Free c =
     let same : g i ≡ x = get_or-set_same cs i x vacant (omega (arith, s.3)) in
     let other : (j : ℕ) → j ≢ i → g j ≡ f j = λ j ne. get_or-set_other cs i j x vacant ne in
     let long : min (length ds) 4096 ≡ m = ap (λ j. min j 4096) (length-set cs i x) in
-    let up : InOrder c.args.self.now → n + 1 ≡ c.saturating-add-self.result =
+    let up : InOrder c.args.self.now → n + 1 ≡ c.saturating_add-self.result =
     λ k. omega (arith, put_room f g m n i x refl same other k.cells s, k.cells.counted) in
     let S : ℕ → Type 0 = λ j. Sound g m j in
-    let T : ℕ → Type 0 = λ j. Sound g j c.saturating-add-self.result in
+    let T : ℕ → Type 0 = λ j. Sound g j c.saturating_add-self.result in
     let F : ℕ → Type 0 = λ j. (p : ℕ) → find (rows_of g j) p ≡ cond (eqb p q) (Some x.result) (find (rows_of f m) p) in
     let H : ℕ → Type 0 = λ j. length (rows_of g j) ≡ length (rows_of f m) + 1 in
     record {

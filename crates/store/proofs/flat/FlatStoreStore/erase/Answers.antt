@@ -6,11 +6,11 @@ use Rattle.store.specs.Flats.{InOrder}
 use Rattle.store.proofs.Fronts.{hit, miss, swapped, left_long, erase_apart, erase_finds}
 use Rattle.store.proofs.flat.FlatStoreStore.erase.Goals as goal
 
-pub returns-in-default : goal.returns-in-default
-returns-in-default c =
+pub returns-in_default : goal.returns-in_default
+returns-in_default c =
     let cs = c.args.self.now.cells.now in
     let n = c.args.self.now.count in
-    let m = c.in-default.ensures in
+    let m = c.in_default.ensures in
     record {
       sound = λ k. k;
       erased =

@@ -6,11 +6,11 @@ use Rattle.store.specs.Flats.{InOrder}
 use Rattle.store.proofs.Fronts.{hit, miss, after_long, write_apart, write_finds, some_case, none_case}
 use Rattle.store.proofs.flat.FlatStoreStore.write.Goals as goal
 
-pub returns-then-is-some : goal.returns-then-is-some
-returns-then-is-some c =
+pub returns-then-is_some : goal.returns-then-is_some
+returns-then-is_some c =
     let cs = c.args.self.now.cells.now in
     let n = c.args.self.now.count in
-    let f = some_case c.position.result _ _ c.position.ensures (sym c.if-is-some.ensures) in
+    let f = some_case c.position.result _ _ c.position.ensures (sym c.if-is_some.ensures) in
     let p = f.1 in
     record {
       sound = λ k. k;
@@ -25,7 +25,7 @@ pub returns-then-n-usable : goal.returns-then-n-usable
 returns-then-n-usable c =
     let cs = c.args.self.now.cells.now in
     let n = c.args.self.now.count in
-    let m = none_case c.position.result _ _ c.position.ensures (sym c.if-is-some.ensures) in
+    let m = none_case c.position.result _ _ c.position.ensures (sym c.if-is_some.ensures) in
     record {
       sound = λ k. k;
       written =
@@ -42,7 +42,7 @@ returns c =
     let cs = c.args.self.now.cells.now in
     let n = c.args.self.now.count in
     let x = c.args.row in
-    let m = none_case c.position.result _ _ c.position.ensures (sym c.if-is-some.ensures) in
+    let m = none_case c.position.result _ _ c.position.ensures (sym c.if-is_some.ensures) in
     let room : n < min (length cs) 4096 = omega arith in
     let lt : n < length cs = omega arith in
     let le : n ≤ length cs = omega arith in
