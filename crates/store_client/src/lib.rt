@@ -42,9 +42,9 @@ impl Outcome {
 
 // Makes the call.
 pub fn perform<S: Store>(s: &mut S, call: Call) -> Outcome
-    ensures sound { sound s.old → sound s.new }
-    ensures performed { sound s.old → Performed (contents s.old) call result (contents s.new) }
-    ensures frame { frame s.new ≡ frame s.old }
+    ensures sound { S.sound s.old → S.sound s.new }
+    ensures performed { S.sound s.old → Performed (S.contents s.old) call result (S.contents s.new) }
+    ensures frame { S.frame s.new ≡ S.frame s.old }
 {
     match call {
         Call::Search(key) => match s.search(key) {
@@ -64,11 +64,11 @@ pub fn perform<S: Store>(s: &mut S, call: Call) -> Outcome
 
 // Makes the call of two stores. If they are alike, they answer alike and stay so.
 pub fn perform_both<A: Store, B: Store>(a: &mut A, b: &mut B, call: Call) -> (Outcome, Outcome)
-    ensures left { A.Store.sound a.old → A.Store.sound a.new }
-    ensures right { B.Store.sound b.old → B.Store.sound b.new }
-    ensures framed { (A.Store.frame a.new ≡ A.Store.frame a.old) × (B.Store.frame b.new ≡ B.Store.frame b.old) }
-    ensures same { A.Store.sound a.old → B.Store.sound b.old → Alike (A.Store.contents a.old) (B.Store.contents b.old) → result.0 ≡ result.1 }
-    ensures alike { A.Store.sound a.old → B.Store.sound b.old → Alike (A.Store.contents a.old) (B.Store.contents b.old) → Alike (A.Store.contents a.new) (B.Store.contents b.new) }
+    ensures left { A.sound a.old → A.sound a.new }
+    ensures right { B.sound b.old → B.sound b.new }
+    ensures framed { (A.frame a.new ≡ A.frame a.old) × (B.frame b.new ≡ B.frame b.old) }
+    ensures same { A.sound a.old → B.sound b.old → Alike (A.contents a.old) (B.contents b.old) → result.0 ≡ result.1 }
+    ensures alike { A.sound a.old → B.sound b.old → Alike (A.contents a.old) (B.contents b.old) → Alike (A.contents a.new) (B.contents b.new) }
 {
     let left = perform(a, call);
     let right = perform(b, call);
@@ -78,10 +78,10 @@ pub fn perform_both<A: Store, B: Store>(a: &mut A, b: &mut B, call: Call) -> (Ou
 // Makes the calls of two stores, up to one that they answer differently. Stores that are alike answer
 // all of them alike.
 pub fn agree<A: Store, B: Store>(a: &mut A, b: &mut B, calls: &[Call]) -> bool
-    ensures left { A.Store.sound a.old → A.Store.sound a.new }
-    ensures right { B.Store.sound b.old → B.Store.sound b.new }
-    ensures framed { (A.Store.frame a.new ≡ A.Store.frame a.old) × (B.Store.frame b.new ≡ B.Store.frame b.old) }
-    ensures same { A.Store.sound a.old → B.Store.sound b.old → Alike (A.Store.contents a.old) (B.Store.contents b.old) → T result }
+    ensures left { A.sound a.old → A.sound a.new }
+    ensures right { B.sound b.old → B.sound b.new }
+    ensures framed { (A.frame a.new ≡ A.frame a.old) × (B.frame b.new ≡ B.frame b.old) }
+    ensures same { A.sound a.old → B.sound b.old → Alike (A.contents a.old) (B.contents b.old) → T result }
 {
     for call in calls {
         let (left, right) = perform_both(a, b, *call);
@@ -94,9 +94,9 @@ pub fn agree<A: Store, B: Store>(a: &mut A, b: &mut B, calls: &[Call]) -> bool
 
 // Writes the row, and then finds it.
 pub fn write_then_search<S: Store>(s: &mut S, row: Row) -> Result<Option<u16>, StoreRefusal>
-    ensures sound { sound s.old → sound s.new }
-    ensures finds { sound s.old → WrittenThenSearched (contents s.old) row result (contents s.new) }
-    ensures frame { frame s.new ≡ frame s.old }
+    ensures sound { S.sound s.old → S.sound s.new }
+    ensures finds { S.sound s.old → WrittenThenSearched (S.contents s.old) row result (S.contents s.new) }
+    ensures frame { S.frame s.new ≡ S.frame s.old }
 {
     s.write(row)?;
     Ok(s.search(row.key))
@@ -104,9 +104,9 @@ pub fn write_then_search<S: Store>(s: &mut S, row: Row) -> Result<Option<u16>, S
 
 // Erases the key's row, and then finds none.
 pub fn erase_then_search<S: Store>(s: &mut S, key: u64) -> Result<Option<u16>, StoreRefusal>
-    ensures sound { sound s.old → sound s.new }
-    ensures finds { sound s.old → ErasedThenSearched (contents s.old) key result (contents s.new) }
-    ensures frame { frame s.new ≡ frame s.old }
+    ensures sound { S.sound s.old → S.sound s.new }
+    ensures finds { S.sound s.old → ErasedThenSearched (S.contents s.old) key result (S.contents s.new) }
+    ensures frame { S.frame s.new ≡ S.frame s.old }
 {
     s.erase(key)?;
     Ok(s.search(key))
