@@ -1,12 +1,10 @@
 -- A card goes on following its history with each call.
-use Rattle.std.proofs.Common.{◌≡◌, ℕ, zero, suc, ◌+◌, ◌-◌, ◌^◌, ◌<◌, ◌≤◌, min, Bool, List, [], ◌∷◌, ◌++◌, length, get_or, replicate, Some, None, Option, sym, refl, ap, ◌∙◌, subst, arith}
+use Rattle.std.proofs.Common.{◌≡◌, ℕ, zero, suc, Bool, [], ◌∷◌, length, get_or, replicate, Some, None, Option, sym, refl, ap, subst, arith}
 use mathlib.Core.Path.{fun_ext}
-use Rattle.store.specs.declared.row.Row.{Row}
 use Rattle.store.specs.Meaning.{Contents, Lawful}
 use Rattle.card.specs.declared.states.SideState.{SideState}
-use Rattle.card.specs.declared.states.SideState.TheVariants.{Free, Loading, Ready, InForce, SetAside}
+use Rattle.card.specs.declared.states.SideState.TheVariants.{SetAside}
 use Rattle.card.specs.declared.cards.Side.{Side}
-use Rattle.card.specs.declared.cards.Seat.{Seat}
 use Rattle.card.specs.declared.cards.Seat.TheVariants.{Vacant}
 use Rattle.card.specs.declared.cards.Card.{Card}
 use Rattle.card.specs.declared.events.Event.{Event}
@@ -14,8 +12,8 @@ use Rattle.card.specs.declared.events.Event.TheVariants.{SideRead, SeatRead, Cle
 use Rattle.questions.specs.Asking.{asked_yes}
 use Rattle.card.specs.Sides.{fresh}
 use Rattle.card.specs.Views.{Begun, View, Right, Given}
-use Rattle.card.specs.Histories.{History, state_at, held_at, chain_at, open_at, current_at, seen}
-use Rattle.card.specs.Laws.{Law, no_rows}
+use Rattle.card.specs.Histories.{History, state_at, held_at, chain_at, current_at, seen}
+use Rattle.card.specs.Laws.{no_rows}
 use Rattle.card.specs.Calls.{begun, shown, OneCall}
 use Rattle.card.specs.Following.{Holding, Built, Follows}
 

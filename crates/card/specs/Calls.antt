@@ -1,5 +1,5 @@
 -- One call on a card: the card before, the call with its answer, and the card after.
-use Rattle.std.specs.Prelude.{◌≡◌, ℕ, ◌+◌, ◌-◌, ◌*◌, ◌<◌, ◌≤◌, Bool, cond, List, [], ◌∷◌, length, Some, None, vec_items, Option, Result, ◌==◌, slice_index_or, slice_set}
+use Rattle.std.specs.Prelude.{◌≡◌, ℕ, ◌+◌, ◌-◌, ◌*◌, cond, Some, None, vec_items, Option, Result, ◌==◌, slice_index_or, slice_set}
 use Rattle.store.specs.declared.row.StoreRefusal.{StoreRefusal}
 use Rattle.store.specs.Rows.{key_at}
 use Rattle.store.specs.Meaning.{Contents, Erased}
@@ -8,7 +8,6 @@ use Rattle.card.specs.declared.states.SideState.{SideState}
 use Rattle.card.specs.declared.states.Change.{Change}
 use Rattle.card.specs.declared.states.Change.TheVariants.{Clear, ClearLast}
 use Rattle.card.specs.declared.cards.Side.{Side}
-use Rattle.card.specs.declared.cards.Walk.{Walk}
 use Rattle.card.specs.declared.cards.Seat.{Seat}
 use Rattle.card.specs.declared.cards.Seat.TheVariants.{Vacant, Open}
 use Rattle.card.specs.declared.cards.Card.{Card}

@@ -1,5 +1,5 @@
 -- How a card follows the history of its calls.
-use Rattle.std.specs.Prelude.{◌≡◌, ℕ, ◌<◌, ◌≤◌, Bool, List, [], ◌∷◌, length, replicate, Some, None, Option}
+use Rattle.std.specs.Prelude.{◌≡◌, ℕ, ◌<◌, ◌≤◌, List, length, replicate, Some, None, Option}
 use Rattle.store.specs.declared.row.Row.{Row}
 use Rattle.store.specs.Meaning.{Contents}
 use Rattle.card.specs.declared.states.SideState.{SideState}

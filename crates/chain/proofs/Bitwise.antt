@@ -1,7 +1,6 @@
 -- The longest length below a bound, by the bits of a mask.
-use Rattle.std.proofs.Common.{◌≡◌, ℕ, zero, suc, ◌+◌, ◌-◌, ◌*◌, ◌/◌, ◌%◌, ◌^◌, ◌<◌, ◌≤◌, Bool, true, false, eqb, ◌⊎◌, Some, None, Option, sym, refl, ap, ◌∙◌, subst, inl, inr, arith, pow_pos, pow_mono}
+use Rattle.std.proofs.Common.{◌≡◌, ℕ, zero, suc, ◌+◌, ◌-◌, ◌/◌, ◌%◌, ◌^◌, ◌<◌, ◌≤◌, Bool, true, false, eqb, Some, None, sym, refl, ap, ◌∙◌, subst, inl, inr, arith, pow_pos, pow_mono}
 use native.Mathlib.Nat.{div-eq_of_lt}
-use lib.Bits.{bit_and, and_mask}
 use lib.Count.{count_leading_zeros, leading_top}
 use lib.Pow.{mod-mod-pow}
 use Rattle.std.proofs.lemmas.Nat.{field_of, div_below, le-div, mod_below}

@@ -1,13 +1,13 @@
 -- The keys of a chain are all different, and a key of a table is found in that table alone.
-use Rattle.std.proofs.Common.{◌≡◌, ℕ, zero, suc, ◌+◌, ◌-◌, ◌*◌, ◌%◌, ◌^◌, ◌<◌, ◌≤◌, Bool, true, false, cond, eqb, ◌≢◌, ◌⊎◌, List, [], ◌∷◌, ◌++◌, map, length, get_or, Some, None, Option, sym, refl, ap, ◌∙◌, subst, inl, inr, add-zero, arith, pow_pos, pow_mono}
+use Rattle.std.proofs.Common.{◌≡◌, ℕ, zero, suc, ◌+◌, ◌-◌, ◌^◌, ◌<◌, ◌≤◌, cond, eqb, ◌≢◌, List, [], ◌∷◌, ◌++◌, length, get_or, Some, None, sym, ◌∙◌, subst, add-zero, arith, pow_pos, pow_mono}
 use Rattle.diagram.specs.Diagrams.{Node, Level, Diagram, Runs, next}
-use Rattle.diagram.specs.Blocks.{Block, cover}
+use Rattle.diagram.specs.Blocks.{Block}
 use Rattle.diagram.specs.Keys.{key}
 use Rattle.diagram.specs.Chains.{chain, rows_of_edge, rows_of_level, rows_from}
 use Rattle.store.specs.declared.row.Row.{Row}
 use Rattle.store.specs.Rows.{find}
 use Rattle.chain.specs.Finds.{Absent, Distinct, Limits, Whole, Sized, ChainDistinct, SidesApart, FewNodes, ReducedSized}
-use Rattle.chain.specs.Tables.{block_of, Tile, tiles, Tiled, row_length, table}
+use Rattle.chain.specs.Tables.{block_of, Tile, tiles, Tiled, row_length}
 use Rattle.chain.proofs.Keyed.{key_injective, Every, every_both, every_absent, distinct_both, find_left, find_right}
 use Rattle.chain.proofs.Tiling.{rows_of, Faithful, tiled_end, later_absent, rows_of_tiles, node_tiled, one_row}
 

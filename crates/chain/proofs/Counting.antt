@@ -1,10 +1,10 @@
 -- How many rows a chain has.
-use Rattle.std.proofs.Common.{◌≡◌, ℕ, zero, suc, ◌+◌, ◌-◌, ◌*◌, ◌^◌, ◌<◌, ◌≤◌, List, [], ◌∷◌, ◌++◌, map, length, get_or, Option, sym, refl, ap, ◌∙◌, subst, arith, length-append}
+use Rattle.std.proofs.Common.{◌≡◌, ℕ, suc, ◌+◌, ◌-◌, ◌^◌, ◌<◌, ◌≤◌, List, [], ◌∷◌, map, length, get_or, refl, ap, arith, length-append}
 use Rattle.std.proofs.lemmas.List.{length-map}
-use Rattle.diagram.specs.Diagrams.{Node, Level, Diagram, Runs, Reduced}
+use Rattle.diagram.specs.Diagrams.{Node, Level, Diagram, Runs}
 use Rattle.diagram.specs.Blocks.{Block, cover}
 use Rattle.diagram.specs.Keys.{key}
-use Rattle.diagram.specs.Chains.{chain, rows_of_edge, rows_of_level, rows_from}
+use Rattle.diagram.specs.Chains.{rows_of_edge, rows_of_level, rows_from}
 use Rattle.store.specs.declared.row.Row.{Row}
 use Rattle.diagram.specs.States.{total}
 use Rattle.diagram.proofs.Covers.{cover_step}

@@ -1,13 +1,9 @@
 -- Keys tell their parts.
-use Rattle.std.proofs.Common.{◌≡◌, ℕ, zero, suc, ◌+◌, ◌-◌, ◌*◌, ◌^◌, ◌<◌, ◌≤◌, Bool, true, false, cond, eqb, ◌≢◌, ◌⊎◌, List, [], ◌∷◌, ◌++◌, map, length, get_or, Some, None, Option, sym, refl, ap, ◌∙◌, subst, inl, inr, arith, pow_pos, pow_mono}
-use Rattle.std.proofs.lemmas.Bool.{eq-eqb, ne_eqb, cases_eq, cases_lt}
-use Rattle.diagram.specs.Diagrams.{Node, Level, Diagram, Runs}
-use Rattle.diagram.specs.Blocks.{Block, cover}
-use Rattle.diagram.specs.Keys.{key}
-use Rattle.diagram.specs.Chains.{chain, rows_of_edge, rows_of_level, rows_from}
+use Rattle.std.proofs.Common.{◌≡◌, ℕ, ◌^◌, ◌<◌, ◌≤◌, cond, eqb, ◌≢◌, List, [], ◌∷◌, ◌++◌, Some, None, Option, refl, ap, arith}
+use Rattle.std.proofs.lemmas.Bool.{ne_eqb}
 use Rattle.store.specs.declared.row.Row.{Row}
 use Rattle.store.specs.Rows.{find}
-use Rattle.chain.specs.Finds.{Absent, Distinct, Limits, KeyInjective, Whole, Sized, ChainDistinct, SidesApart}
+use Rattle.chain.specs.Finds.{Absent, Distinct, KeyInjective}
 
 pub key_injective : KeyInjective
 key_injective s t l m j k b c p q e =

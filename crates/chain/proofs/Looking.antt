@@ -1,16 +1,11 @@
 -- A look_up, search by search.
-use Rattle.std.proofs.Common.{◌≡◌, ℕ, zero, suc, ◌+◌, ◌-◌, ◌*◌, ◌%◌, ◌^◌, ◌<◌, ◌≤◌, min, Bool, true, false, cond, eqb, ◌≢◌, ◌⊎◌, List, [], ◌∷◌, ◌++◌, map, length, get_or, take, Some, None, Option, sym, refl, ap, ◌∙◌, subst, inl, inr, arith, length-take, pow_pos, pow_mono}
-use Rattle.std.proofs.lemmas.Bool.{eq-eqb, ne_eqb, cases_eq, cases_lt, cases_Bool, both_ways}
+use Rattle.std.proofs.Common.{◌≡◌, ℕ, zero, suc, ◌+◌, ◌^◌, ◌<◌, ◌≤◌, Bool, true, false, cond, eqb, List, [], ◌∷◌, length, get_or, take, Some, None, Option, sym, refl, ap, ◌∙◌, subst, inl, inr, arith}
+use Rattle.std.proofs.lemmas.Bool.{eq-eqb, ne_eqb, cases_eq, cases_Bool, both_ways}
 use Rattle.std.proofs.lemmas.List.{take_all, length-take-le}
-use Rattle.diagram.specs.Diagrams.{Node, Level, Diagram, Runs, next, walk, Begins, Header, Reduced}
-use Rattle.diagram.specs.Blocks.{Block}
-use Rattle.diagram.specs.Keys.{key}
-use Rattle.diagram.specs.Chains.{chain}
-use Rattle.store.specs.declared.row.Row.{Row}
-use Rattle.store.specs.Rows.{find}
-use Rattle.chain.specs.Finds.{Limits, Sized, Whole}
+use Rattle.diagram.specs.Diagrams.{Diagram, next, walk, Begins, Header, Reduced}
+use Rattle.chain.specs.Finds.{Sized}
 use Rattle.chain.specs.Tables.{block_of, table, table_lengths, row_length, tries, occurs, place, lengths}
-use Rattle.chain.specs.Looks.{longest, node_at, width, occurs_at, spent, occurring, most, Loaded, Stands, sought, Steps, LookUp}
+use Rattle.chain.specs.Looks.{longest, node_at, width, occurs_at, spent, occurring, most, Loaded, Stands, sought, LookUp}
 use Rattle.chain.proofs.Tiling.{hit_occurs, node_tiled}
 use Rattle.chain.proofs.Chained.{whole_at, sized_at, chain_row, limits}
 

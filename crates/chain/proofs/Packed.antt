@@ -1,16 +1,12 @@
 -- Keys and masks as bits.
-use Rattle.std.proofs.Common.{◌≡◌, ℕ, zero, suc, ◌+◌, ◌-◌, ◌*◌, ◌/◌, ◌%◌, ◌^◌, ◌<◌, ◌≤◌, Bool, true, false, cond, ◌||◌, eqb, ◌⊎◌, Some, None, Option, sym, refl, ap, ◌∙◌, inl, inr, mul-div_cancel, arith, pow_pos, pow-add}
-use lib.Bits.{bit_or, bit_and, or_shifted, and_mask}
-use Rattle.std.proofs.lemmas.Bool.{eq-eqb, ne_eqb, cases_order, cases_Bool}
+use Rattle.std.proofs.Common.{◌≡◌, ℕ, zero, suc, ◌+◌, ◌-◌, ◌*◌, ◌/◌, ◌%◌, ◌^◌, ◌<◌, true, false, cond, eqb, Some, sym, refl, ap, ◌∙◌, arith}
+use lib.Bits.{bit_or, bit_and, or_shifted}
+use Rattle.std.proofs.lemmas.Bool.{eq-eqb, ne_eqb}
 use Rattle.diagram.specs.Keys.{key}
-use Rattle.chain.specs.Masks.{longest_in, Masks, SameLongest}
+use Rattle.chain.specs.Masks.{longest_in, SameLongest}
 use Rattle.diagram.specs.Masks.{bit}
 use Rattle.diagram.proofs.Masking.{bit_of}
 use Rattle.chain.specs.Looks.{longest}
-use native.Mathlib.Nat.{div-eq_of_lt, div_self, mul-mod_left}
-use lib.Pow.{pow-lt}
-use Rattle.std.proofs.lemmas.Nat.{or_shr, or_mod, or_comm, one_shl}
-use lib.Bits.{or_zero_r}
 
 pub packed : (s l k n v : ℕ) → s < 256 → l < 256 → k < 256 → n < 256 → v < 2 ^ 32
     → bit_or (bit_or (bit_or (bit_or (s * 2 ^ 56) (l * 2 ^ 48)) (k * 2 ^ 40)) (n * 2 ^ 32)) v ≡ key s l k (record { len = n; value = v })

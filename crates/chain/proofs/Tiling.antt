@@ -1,17 +1,16 @@
 -- Blocks that tile a field.
-use Rattle.std.proofs.Common.{◌≡◌, ℕ, zero, suc, ◌+◌, ◌-◌, ◌*◌, ◌/◌, ◌%◌, ◌^◌, ◌<◌, ◌≤◌, Bool, true, false, cond, ◌||◌, eqb, ltb, leb, ◌≢◌, ◌⊎◌, List, [], ◌∷◌, ◌++◌, map, length, get_or, Some, None, Option, sym, refl, ap, ◌∙◌, subst, inl, inr, mod-lt, mod-eq_of_lt, zero-add, arith, pow_pos, pow_mono}
-use native.Mathlib.Nat.{add-mod, mod-le, mod-mod}
+use Rattle.std.proofs.Common.{◌≡◌, ℕ, ◌+◌, ◌-◌, ◌%◌, ◌^◌, ◌<◌, ◌≤◌, true, false, cond, eqb, ltb, leb, List, [], ◌∷◌, ◌++◌, map, Some, None, sym, refl, ap, ◌∙◌, subst, inl, inr, mod-lt, mod-eq_of_lt, arith, pow_pos}
+use native.Mathlib.Nat.{add-mod}
 use Rattle.std.proofs.lemmas.Bool.{eq-eqb, ne_eqb, lt-ltb, le-ltb, cases_eq, cases_lt, or_left, or_right, le-leb, lt-leb}
-use Rattle.diagram.specs.declared.edges.Edge.{Edge}
 use Rattle.diagram.specs.Diagrams.{Node, Runs, next}
 use Rattle.diagram.specs.Blocks.{Block, cover, Covers}
 use Rattle.diagram.specs.Chains.{rows_of_edge}
 use Rattle.store.specs.declared.row.Row.{Row}
 use Rattle.diagram.proofs.Covers.{cover_covers}
-use Rattle.diagram.proofs.Unique.{next_first, next_later, runs_top, runs_high}
+use Rattle.diagram.proofs.Unique.{next_first, next_later}
 use Rattle.store.specs.Rows.{find}
 use Rattle.chain.specs.Finds.{Absent}
-use Rattle.chain.specs.Tables.{block_of, Tile, tiles, Tiled, hit_length, hit_result, occurs, lengths, place, table, OneRow}
+use Rattle.chain.specs.Tables.{block_of, Tile, tiles, Tiled, hit_length, hit_result, occurs, OneRow}
 use Rattle.chain.proofs.Keyed.{find_absent}
 
 -- the block of a value

@@ -1,6 +1,6 @@
 -- What rows say of a key.
-use Rattle.std.specs.Prelude.{◌≡◌, ℕ, zero, suc, ◌+◌, ◌-◌, ◌*◌, ◌^◌, ◌<◌, ◌≤◌, Bool, true, false, cond, ◌≢◌, List, [], ◌∷◌, ◌++◌, length, Some, None, Option, slice_index, slice_index_or}
-use Rattle.diagram.specs.Diagrams.{Node, Level, Diagram, Runs, Reduced}
+use Rattle.std.specs.Prelude.{◌≡◌, ℕ, ◌-◌, ◌^◌, ◌<◌, ◌≤◌, ◌≢◌, List, [], ◌∷◌, length, Option, slice_index, slice_index_or}
+use Rattle.diagram.specs.Diagrams.{Level, Diagram, Runs, Reduced}
 use Rattle.diagram.specs.Blocks.{Block}
 use Rattle.diagram.specs.Keys.{key}
 use Rattle.diagram.specs.Chains.{chain}

@@ -1,10 +1,9 @@
 -- A look-up: where it stands after some searches, and what they lead to.
-use Rattle.std.specs.Prelude.{◌≡◌, ℕ, zero, suc, ◌+◌, ◌-◌, ◌*◌, ◌^◌, ◌<◌, ◌≤◌, Bool, true, false, cond, List, [], ◌∷◌, ◌++◌, length, take, Some, None, Option, slice_index, slice_index_or}
+use Rattle.std.specs.Prelude.{◌≡◌, ℕ, zero, suc, ◌+◌, ◌<◌, ◌≤◌, Bool, true, cond, List, [], ◌∷◌, length, take, Some, None, Option, slice_index, slice_index_or}
 use Rattle.diagram.specs.Diagrams.{Node, Diagram, next, walk, Header, Reduced}
 use Rattle.diagram.specs.Blocks.{Block}
 use Rattle.diagram.specs.Keys.{key}
 use Rattle.diagram.specs.Chains.{chain, fields, drawn}
-use Rattle.store.specs.declared.row.Row.{Row}
 use Rattle.store.specs.Rows.{find}
 use Rattle.chain.specs.Finds.{Limits, Sized}
 use Rattle.chain.specs.Tables.{block_of, table, table_lengths, row_length, tries, occurs, place}

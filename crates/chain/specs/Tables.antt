@@ -1,10 +1,8 @@
 -- The table of a node: its blocks with their results, which tile the field.
-use Rattle.std.specs.Prelude.{◌≡◌, ℕ, zero, suc, ◌+◌, ◌-◌, ◌*◌, ◌/◌, ◌%◌, ◌^◌, ◌<◌, ◌≤◌, Bool, true, false, cond, ◌||◌, List, [], ◌∷◌, ◌++◌, map, length, Some, None, Option, ◌==◌, nat_lt}
-use Rattle.diagram.specs.declared.edges.Edge.{Edge}
+use Rattle.std.specs.Prelude.{◌≡◌, ℕ, zero, suc, ◌+◌, ◌-◌, ◌%◌, ◌^◌, ◌<◌, ◌≤◌, Bool, false, cond, ◌||◌, List, [], ◌∷◌, ◌++◌, map, Some, None, ◌==◌, nat_lt}
 use Rattle.diagram.specs.Diagrams.{Node, Runs, next}
 use Rattle.diagram.specs.Blocks.{Block, cover}
 use Rattle.diagram.specs.Chains.{rows_of_edge}
-use Rattle.store.specs.declared.row.Row.{Row}
 use Rattle.store.specs.Rows.{find}
 
 -- the block of length n that a value of a field of w bits lies in: its low w - n bits are zero

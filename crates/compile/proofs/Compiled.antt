@@ -1,16 +1,16 @@
 -- Whether the chain of a list fits.
-use Rattle.std.proofs.Common.{◌≡◌, ℕ, zero, suc, ◌+◌, ◌%◌, ◌<◌, ◌≤◌, ◌⊎◌, List, [], ◌∷◌, length, get_or, take, Some, None, Option, sym, refl, ap, ◌∙◌, subst, inl, inr, ⊎_elim, arith}
+use Rattle.std.proofs.Common.{◌≡◌, ℕ, zero, suc, ◌<◌, ◌≤◌, List, [], ◌∷◌, length, get_or, Some, None, Option, sym, refl, ap, ◌∙◌, subst, inl, inr, arith}
 use Rattle.std.specs.Option.{option_map}
 use Rattle.std.proofs.lemmas.List.{length-take-le}
 use Rattle.store.specs.declared.row.Row.{Row}
 use Rattle.policy.specs.declared.rules.Rule.{Rule}
 use Rattle.policy.specs.Fields.{widths}
 use Rattle.policy.specs.Rules.{decide, first}
-use Rattle.diagram.specs.Diagrams.{Diagram, Level, Header, Reduced}
-use Rattle.diagram.specs.States.{Failed, Big, total, nodes}
+use Rattle.diagram.specs.Diagrams.{Diagram, Reduced}
+use Rattle.diagram.specs.States.{Failed, Big, total}
 use Rattle.diagram.specs.Chains.{chain}
 use Rattle.diagram.proofs.Unique.{determined}
-use Rattle.chain.specs.Counts.{edges, blocks}
+use Rattle.chain.specs.Counts.{edges}
 use Rattle.chain.proofs.Counting.{counts}
 use Rattle.compile.specs.declared.levels.Level.{Level as Nodes}
 use Rattle.compile.specs.Levels.{diagram_of, AllSound}

@@ -1,10 +1,10 @@
 -- The least numbers that a rule is the first live one to take.
-use Rattle.std.proofs.Common.{◌≡◌, ℕ, zero, suc, ◌+◌, ◌^◌, ◌<◌, ◌≤◌, Bool, true, false, cond, ◌≢◌, ◌⊎◌, List, [], ◌∷◌, length, get_or, drop, set, Some, None, Option, sym, refl, ap, ◌∙◌, subst, inl, inr, ⊎_elim, add-one, arith, MatchOption}
+use Rattle.std.proofs.Common.{◌≡◌, ℕ, zero, suc, ◌+◌, ◌^◌, ◌<◌, ◌≤◌, Bool, true, false, cond, List, [], ◌∷◌, length, get_or, drop, set, Some, None, Option, sym, refl, ap, ◌∙◌, subst, ⊎_elim, arith, MatchOption}
 use Rattle.std.proofs.lemmas.Bool.{cases_eq, cases_lt, and_from}
 use Rattle.std.proofs.lemmas.List.{drop-set, length-set, get_or-set_same, get_or-set_other}
 use Rattle.policy.specs.declared.rules.Rule.{Rule}
 use Rattle.policy.specs.Fields.{widths}
-use Rattle.policy.specs.Rules.{meets_from, rule_at, first}
+use Rattle.policy.specs.Rules.{meets_from, rule_at}
 use Rattle.diagram.specs.Diagrams.{Header, Before}
 use Rattle.diagram.specs.Masks.{bit}
 use Rattle.diagram.proofs.Steady.{header_step, header_cons}

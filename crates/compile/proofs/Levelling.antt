@@ -1,5 +1,5 @@
 -- The rows of a level's tables, node by node, and of all levels.
-use Rattle.std.proofs.Common.{◌≡◌, ℕ, ◌+◌, ◌*◌, ◌<◌, ◌≤◌, Bool, true, false, ◌||◌, ◌≢◌, ◌⊎◌, List, [], ◌∷◌, ◌++◌, length, get_or, take, drop, set, sym, refl, ap, ◌∙◌, subst, inl, inr, ⊎_elim, append_assoc, arith, length-append}
+use Rattle.std.proofs.Common.{◌≡◌, ℕ, ◌+◌, ◌*◌, ◌<◌, ◌≤◌, ◌≢◌, ◌⊎◌, List, [], ◌∷◌, ◌++◌, length, get_or, take, drop, set, sym, ap, ◌∙◌, subst, inl, ⊎_elim, append_assoc, arith, length-append}
 use Rattle.std.proofs.lemmas.List.{length-take-le, length-map, get_or-map, drop_more, get_or-set_same, get_or-set_other}
 use Rattle.std.proofs.lemmas.Bool.{cases_eq}
 use Rattle.store.specs.declared.row.Row.{Row}
@@ -11,7 +11,7 @@ use Rattle.diagram.specs.Chains.{rows_of_edge, rows_of_level, rows_from, chain}
 use Rattle.chain.specs.Tables.{occurs, table}
 use Rattle.compile.specs.declared.levels.Level.{Level}
 use Rattle.compile.specs.Levels.{nodes_of, diagram_of, AllSound}
-use Rattle.compile.specs.Writing.{Measured, Levelled}
+use Rattle.compile.specs.Writing.{Measured}
 use Rattle.compile.proofs.Slots.{nodes_length}
 
 -- rows that follow others, and no place for them

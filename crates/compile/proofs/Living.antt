@@ -1,5 +1,5 @@
 -- The first place at which a test holds, and the live rules of a run of values.
-use Rattle.std.proofs.Common.{◌≡◌, ℕ, zero, suc, ◌+◌, ◌-◌, ◌/◌, ◌^◌, ◌<◌, ◌≤◌, min, Bool, true, false, cond, ◌&&◌, ◌||◌, eqb, ◌⊎◌, List, [], ◌∷◌, ◌++◌, length, get_or, drop, set, Some, None, Option, sym, refl, ap, ◌∙◌, subst, inl, inr, ⊎_elim, add-one, arith, pow_pos}
+use Rattle.std.proofs.Common.{◌≡◌, ℕ, zero, suc, ◌+◌, ◌-◌, ◌/◌, ◌^◌, ◌<◌, ◌≤◌, min, Bool, true, false, cond, ◌&&◌, ◌||◌, List, [], ◌∷◌, length, get_or, drop, set, Some, None, Option, sym, refl, ap, ◌∙◌, subst, inl, inr, ⊎_elim, add-one, arith, pow_pos}
 use native.Mathlib.Nat.{div-eq_of_lt}
 use Rattle.std.proofs.lemmas.Bool.{cases_eq, eq-eqb, ne_eqb, and_from, and_left, and_right, and_parts, le-leb, lt-leb, both_ways}
 use Rattle.std.proofs.lemmas.List.{get_or-set_same, get_or-set_other}
@@ -14,7 +14,7 @@ use Rattle.diagram.specs.Diagrams.{Header}
 use Rattle.diagram.specs.Masks.{bit, With}
 use Rattle.diagram.proofs.Steady.{header_step}
 use Rattle.compile.specs.declared.lives.Piece.{Piece}
-use Rattle.compile.specs.Lives.{or_here, first_where, takes, first_live_rule, code_at, Live, Whole, Covers, Covering, Widened, Cut, Narrowed, Looked}
+use Rattle.compile.specs.Lives.{or_here, first_where, takes, code_at, Live, Whole, Covers, Covering, Widened, Cut, Narrowed, Looked}
 
 -- tests that agree below n find the same place
 pub where_same : (p q : ℕ → Bool) (n : ℕ) → ((j : ℕ) → j < n → p j ≡ q j) → first_where p n ≡ first_where q n

@@ -1,12 +1,12 @@
 -- One turn of the builder, and its start and end.
-use Rattle.std.proofs.Common.{◌≡◌, ℕ, zero, suc, ◌+◌, ◌-◌, ◌^◌, ◌<◌, ◌≤◌, true, false, ◌≢◌, ◌⊎◌, List, [], ◌∷◌, ◌++◌, map, length, get_or, take, drop, set, is_some, Some, None, Option, sym, refl, ap, ◌∙◌, subst, inl, inr, append_assoc, add-one, arith, MatchOption}
+use Rattle.std.proofs.Common.{◌≡◌, ℕ, suc, ◌+◌, ◌^◌, ◌<◌, ◌≤◌, true, false, ◌≢◌, ◌⊎◌, List, [], ◌∷◌, ◌++◌, length, get_or, take, drop, set, is_some, Some, None, Option, sym, ap, ◌∙◌, subst, inl, inr, append_assoc, add-one, arith, MatchOption}
 use Rattle.std.proofs.lemmas.Bool.{cases_eq, true≢false}
 use Rattle.std.proofs.lemmas.List.{append-nil, take_all, length-map, length-take-le, get_or-map, take_more_set, map-set, set-get_or, get_or-set_same, get_or-set_other, length-set, length-append}
 use Rattle.policy.specs.declared.rules.Rule.{Rule}
 use Rattle.policy.specs.Fields.{widths}
 use Rattle.policy.specs.Rules.{decide, first}
 use Rattle.diagram.specs.Diagrams.{Node, Diagram, Begins, Before, Header, Reduced, walk}
-use Rattle.diagram.specs.States.{State, Built, Grows, Upto, Means, nodes, append1, total, Big, Failed}
+use Rattle.diagram.specs.States.{State, Built, Grows, nodes, append1, total, Failed}
 use Rattle.diagram.specs.Drafts.{Partial, added}
 use Rattle.diagram.proofs.Unique.{begins_more}
 use Rattle.diagram.proofs.Steady.{grows_refl, grows_trans, append_grows, header_cons, header_end}
@@ -17,7 +17,7 @@ use Rattle.diagram.proofs.Steady.{nodes_here, level_here}
 use Rattle.diagram.proofs.Added.{partial_step, partial_none, partial_made}
 use Rattle.diagram.proofs.Building.{begin, leaf_built, share_built, append_built, empty_state}
 use Rattle.compile.specs.declared.levels.Level.{Level}
-use Rattle.compile.specs.Levels.{nodes_of, diagram_of, Sound, AllSound, Shared, Crowded, Refused}
+use Rattle.compile.specs.Levels.{nodes_of, diagram_of, Sound, AllSound, Shared, Refused}
 use Rattle.compile.specs.declared.lives.Piece.{Piece}
 use Rattle.compile.specs.declared.caches.Known.{Known}
 use Rattle.compile.specs.Lives.{Live, AllWhole, Cut, first_live_rule, code_at}

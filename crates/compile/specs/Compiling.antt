@@ -1,5 +1,5 @@
 -- What compiling a list answers and leaves.
-use Rattle.std.specs.Prelude.{◌≡◌, ℕ, ◌%◌, List, Some, None, Option}
+use Rattle.std.specs.Prelude.{ℕ, ◌%◌, List, None, Option}
 use Rattle.questions.specs.Asking.{ask, accept}
 use Rattle.policy.specs.declared.rules.Rule.{Rule}
 use Rattle.policy.specs.Fields.{widths}

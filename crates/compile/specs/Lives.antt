@@ -1,5 +1,5 @@
 -- Live rules: those that a string of values for the first fields still meets, as the bits of a number.
-use Rattle.std.specs.Prelude.{◌≡◌, ℕ, zero, suc, ◌^◌, ◌<◌, ◌≤◌, Bool, true, false, cond, ◌&&◌, ◌⊎◌, List, [], ◌∷◌, ◌++◌, length, drop, Some, None, Option, ◌≢◌, slice_index}
+use Rattle.std.specs.Prelude.{◌≡◌, ℕ, zero, suc, ◌^◌, ◌<◌, ◌≤◌, Bool, true, false, cond, ◌&&◌, ◌⊎◌, List, ◌∷◌, ◌++◌, length, drop, Some, None, Option, ◌≢◌, slice_index}
 use Rattle.policy.specs.declared.rules.Rule.{Rule}
 use Rattle.policy.specs.Fields.{widths}
 use Rattle.policy.specs.Rules.{admits, meets_from, rule_at, first}

@@ -1,5 +1,5 @@
 -- The first block of a cover.
-use Rattle.std.specs.Prelude.{◌≡◌, ℕ, ◌+◌, ◌≤◌, List, [], ◌∷◌}
+use Rattle.std.specs.Prelude.{◌≡◌, ℕ, ◌+◌, ◌≤◌, ◌∷◌}
 use Rattle.diagram.specs.Blocks.{cover}
 use Rattle.compile.specs.declared.blocks.Block.{Block}
 

@@ -1,5 +1,5 @@
 -- What a place holds.
-use Rattle.std.specs.Prelude.{◌≡◌, ℕ, ◌<◌, ◌≤◌, List, [], length, slice_index_or}
+use Rattle.std.specs.Prelude.{◌≡◌, ℕ, ◌<◌, ◌≤◌, [], length, slice_index_or}
 use Rattle.policy.specs.Fields.{widths}
 use Rattle.diagram.specs.Diagrams.{Diagram}
 use Rattle.diagram.specs.Chains.{chain}

@@ -1,5 +1,5 @@
 -- Rows that are written one after another, and the block lengths that occur in them.
-use Rattle.std.specs.Prelude.{◌≡◌, ℕ, ◌+◌, ◌*◌, ◌<◌, ◌≤◌, Bool, ◌||◌, ◌⊎◌, List, [], ◌++◌, map, length, take, slice_index, slice_index_or}
+use Rattle.std.specs.Prelude.{◌≡◌, ℕ, ◌+◌, ◌*◌, ◌<◌, ◌≤◌, ◌||◌, ◌⊎◌, List, [], ◌++◌, map, length, take, slice_index, slice_index_or}
 use Rattle.store.specs.declared.row.Row.{Row}
 use Rattle.policy.specs.Fields.{widths}
 use Rattle.diagram.specs.Blocks.{Block}

@@ -1,11 +1,11 @@
 -- A run added to the edges of a node.
-use Rattle.std.proofs.Common.{◌≡◌, ℕ, zero, suc, ◌+◌, ◌-◌, ◌^◌, ◌<◌, ◌≤◌, Bool, true, false, eqb, leb, ◌≢◌, ◌⊎◌, List, [], ◌∷◌, ◌++◌, length, get_or, drop, set, Some, None, Option, sym, refl, ap, ◌∙◌, subst, inl, inr, append_assoc, arith, length-append, length-drop, pow_pos}
+use Rattle.std.proofs.Common.{◌≡◌, ℕ, suc, ◌+◌, ◌-◌, ◌^◌, ◌<◌, ◌≤◌, Bool, true, false, eqb, ◌≢◌, ◌⊎◌, List, [], ◌∷◌, ◌++◌, length, get_or, drop, Some, Option, sym, refl, ap, ◌∙◌, subst, inl, inr, append_assoc, arith, length-append, length-drop, pow_pos}
 use Rattle.diagram.specs.declared.edges.Edge.{Edge}
 use Rattle.std.proofs.lemmas.Bool.{cases_order, cases_lt, cases_eq, eqb-true, eqb-false}
-use Rattle.diagram.specs.Diagrams.{Node, Level, Diagram, next, walk, Runs, Begins, Header, Before}
-use Rattle.diagram.specs.States.{nodes, Means, Closed, Apart, State, append1, Grows, Upto}
+use Rattle.diagram.specs.Diagrams.{Node, Diagram, next, walk, Runs, Header}
+use Rattle.diagram.specs.States.{nodes, Means, Grows}
 use Rattle.diagram.specs.Drafts.{added, Partial}
-use Rattle.diagram.proofs.Unique.{next_first, next_later, runs_top, runs_high}
+use Rattle.diagram.proofs.Unique.{next_first, next_later, runs_top}
 use Rattle.diagram.proofs.Steps.{Made}
 
 -- the last edge, by whether it leads to the same place

@@ -1,9 +1,8 @@
 -- A diagram in the making that is too big: so is every reduced one.
-use Rattle.std.proofs.Common.{◌≡◌, ℕ, zero, suc, ◌+◌, ◌-◌, ◌^◌, ◌<◌, ◌≤◌, ◌≢◌, ◌⊎◌, List, [], ◌∷◌, ◌++◌, length, get_or, drop, set, Some, None, Option, sym, refl, ap, ◌∙◌, subst, inl, inr, append_assoc, arith, length-append, length-drop, pow_pos}
-use Rattle.diagram.specs.declared.edges.Edge.{Edge}
-use Rattle.std.proofs.lemmas.Bool.{cases_order, cases_lt, cases_eq}
+use Rattle.std.proofs.Common.{◌≡◌, ℕ, zero, suc, ◌+◌, ◌-◌, ◌^◌, ◌<◌, ◌≤◌, ◌⊎◌, List, [], ◌∷◌, ◌++◌, length, get_or, drop, Some, Option, sym, refl, ap, ◌∙◌, subst, inl, inr, append_assoc, arith, length-append}
+use Rattle.std.proofs.lemmas.Bool.{cases_order}
 use Rattle.diagram.specs.Diagrams.{Node, Level, Diagram, next, walk, Runs, Begins, Header, Before, Reduced}
-use Rattle.diagram.specs.States.{nodes, Means, State, Upto, total, Big}
+use Rattle.diagram.specs.States.{nodes, State, Upto, total, Big}
 use Rattle.diagram.specs.Drafts.{Partial}
 use Rattle.diagram.proofs.Unique.{next_first, next_later, runs_top, runs_high, walk_more, begins_more}
 use Rattle.diagram.proofs.Fronts.{Down, front_more, front_same, target}

@@ -1,9 +1,9 @@
 -- From the start of a node to its end.
-use Rattle.std.proofs.Common.{◌≡◌, ℕ, zero, suc, ◌+◌, ◌-◌, ◌^◌, ◌<◌, ◌≤◌, ◌≢◌, ◌⊎◌, List, [], ◌∷◌, ◌++◌, length, get_or, drop, set, Some, None, Option, sym, refl, ap, ◌∙◌, subst, inl, inr, append_assoc, arith, length-append, length-drop}
-use Rattle.std.proofs.lemmas.List.{append-nil, drop_all}
-use Rattle.diagram.specs.Diagrams.{Node, Level, Diagram, next, walk, Runs, Begins, Header, Before}
-use Rattle.diagram.specs.States.{nodes, Means, Closed, Apart, State, append1, Grows, Upto, Built}
-use Rattle.diagram.proofs.Strings.{before_append, before_split, before_lower, before_raise, begins_parts, begins_join, begins_short, begins_value, begins_change}
+use Rattle.std.proofs.Common.{◌≡◌, ℕ, ◌-◌, ◌^◌, ◌<◌, ◌≢◌, ◌⊎◌, List, [], ◌∷◌, ◌++◌, length, get_or, drop, Some, Option, sym, refl, ap, ◌∙◌, subst, inl, inr, arith, length-append, length-drop}
+use Rattle.std.proofs.lemmas.List.{append-nil}
+use Rattle.diagram.specs.Diagrams.{Node, Diagram, walk, Begins, Before}
+use Rattle.diagram.specs.States.{nodes, Means, State, append1, Grows, Upto, Built}
+use Rattle.diagram.proofs.Strings.{before_append, before_split, before_lower, begins_value}
 use Rattle.diagram.proofs.Steady.{grows_refl, grows_trans, append_grows, nodes_here}
 use Rattle.diagram.proofs.Steps.{Made, made_means, share_step, append_step}
 use Rattle.diagram.proofs.Ranges.{state_iff}

@@ -1,7 +1,7 @@
 -- The cover of a run by blocks.
-use Rattle.std.proofs.Common.{◌≡◌, ℕ, zero, suc, ◌+◌, ◌-◌, ◌%◌, ◌^◌, ◌<◌, ◌≤◌, Bool, true, false, ◌&&◌, eqb, leb, ◌⊎◌, List, [], ◌∷◌, sym, refl, ap, ◌∙◌, subst, inl, inr, add-one, sub-one, arith, pow_pos}
-use Rattle.std.proofs.lemmas.Bool.{le-leb, lt-leb, leb-true, eqb-true, and_parts, cases_Bool, both_ways, cases_lt, cases_eq, and_from, eq-eqb}
-use Rattle.diagram.specs.Blocks.{Block, room, largest, covering, cover, Covers, CoverCovers, Fits}
+use Rattle.std.proofs.Common.{◌≡◌, ℕ, zero, suc, ◌+◌, ◌-◌, ◌%◌, ◌^◌, ◌<◌, ◌≤◌, Bool, true, false, eqb, leb, List, [], ◌∷◌, sym, refl, ap, ◌∙◌, subst, inl, inr, arith, pow_pos}
+use Rattle.std.proofs.lemmas.Bool.{le-leb, lt-leb, leb-true, eqb-true, and_parts, both_ways, cases_lt, cases_eq, and_from, eq-eqb}
+use Rattle.diagram.specs.Blocks.{Block, room, largest, covering, cover, Covers, CoverCovers}
 
 pub largest_yes : (lo hi e : ℕ) → room lo hi e ≡ true → largest lo hi e ≡ e
 largest_yes lo hi zero h = refl

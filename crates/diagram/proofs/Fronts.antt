@@ -1,11 +1,11 @@
 -- A diagram in the making is the front of every reduced diagram of its decision.
-use Rattle.std.proofs.Common.{◌≡◌, ℕ, zero, suc, ◌+◌, ◌-◌, ◌^◌, ◌<◌, ◌≤◌, ◌≢◌, ◌⊎◌, List, [], ◌∷◌, ◌++◌, length, get_or, drop, set, Some, None, Option, sym, refl, ap, ◌∙◌, subst, inl, inr, append_assoc, arith, length-append, length-drop, pow_pos}
-use Rattle.std.proofs.lemmas.Bool.{cases_order, cases_lt, cases_eq}
+use Rattle.std.proofs.Common.{◌≡◌, ℕ, suc, ◌-◌, ◌^◌, ◌<◌, ◌≤◌, List, [], ◌∷◌, ◌++◌, length, get_or, drop, Some, Option, sym, refl, ap, ◌∙◌, subst, inl, inr, append_assoc, arith, length-append, length-drop, pow_pos}
+use Rattle.std.proofs.lemmas.Bool.{cases_order, cases_lt}
 use Rattle.std.proofs.lemmas.List.{append-nil}
-use Rattle.diagram.specs.Diagrams.{Node, Level, Diagram, next, walk, Runs, Begins, Header, Before, SameRemainder, Reduced}
-use Rattle.diagram.specs.States.{nodes, Means, Closed, Apart, State}
+use Rattle.diagram.specs.Diagrams.{Diagram, next, walk, Begins, Header, Before, SameRemainder, Reduced}
+use Rattle.diagram.specs.States.{nodes, Means, State}
 use Rattle.diagram.proofs.Unique.{lex, same_node, walk_more, begins_more, runs_unique}
-use Rattle.diagram.proofs.Steady.{walk_step, header_step, header_cons, header_end, means_one, some_same}
+use Rattle.diagram.proofs.Steady.{walk_step, header_cons, header_end, means_one, some_same}
 use Rattle.diagram.proofs.Strings.{begins_parts, begins_join, begins_short}
 
 abbrev pub Down : (List ℕ → Type 0) → Type 0

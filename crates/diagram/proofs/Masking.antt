@@ -1,11 +1,11 @@
 -- Bits of a number.
-use Rattle.std.proofs.Common.{◌≡◌, ℕ, zero, suc, ◌+◌, ◌-◌, ◌*◌, ◌/◌, ◌%◌, ◌^◌, ◌<◌, ◌≤◌, Bool, true, false, cond, ◌||◌, eqb, ◌⊎◌, sym, refl, ap, ◌∙◌, inl, inr, mul-div_cancel, arith, pow_pos, pow-add}
+use Rattle.std.proofs.Common.{◌≡◌, ℕ, zero, suc, ◌+◌, ◌-◌, ◌*◌, ◌/◌, ◌%◌, ◌^◌, ◌<◌, Bool, true, false, cond, ◌||◌, eqb, sym, refl, ap, ◌∙◌, inl, inr, mul-div_cancel, arith, pow_pos, pow-add}
 use native.Mathlib.Nat.{div-eq_of_lt, div_self, mul-mod_left}
 use lib.Bits.{bit_or, bit_and, and_mask}
 use lib.Pow.{pow-lt}
 use Rattle.std.proofs.lemmas.Nat.{or_shr, or_mod}
 use Rattle.std.proofs.lemmas.Bool.{cases_order, eq-eqb, ne_eqb}
-use Rattle.diagram.specs.Masks.{bit, With}
+use Rattle.diagram.specs.Masks.{With}
 
 -- The test of a bit by a shift.
 pub bit_of : (mask n : ℕ) → bit_and (mask / 2 ^ n) 1 ≡ mask / 2 ^ n % 2

@@ -1,10 +1,10 @@
 -- A range of values that decide alike is done at once; and when all strings are done, the diagram is reduced.
-use Rattle.std.proofs.Common.{◌≡◌, ℕ, zero, suc, ◌+◌, ◌-◌, ◌^◌, ◌<◌, ◌≤◌, ◌≢◌, ◌⊎◌, List, [], ◌∷◌, ◌++◌, length, get_or, drop, set, Some, None, Option, sym, refl, ap, ◌∙◌, subst, inl, inr, append_assoc, arith, length-append, length-drop}
-use Rattle.std.proofs.lemmas.Bool.{cases_order, cases_lt, cases_eq}
+use Rattle.std.proofs.Common.{◌≡◌, ℕ, zero, suc, ◌+◌, ◌-◌, ◌^◌, ◌<◌, ◌≤◌, ◌⊎◌, List, [], ◌∷◌, ◌++◌, length, get_or, drop, Some, Option, sym, refl, ap, ◌∙◌, subst, inl, inr, append_assoc, arith, length-append, length-drop}
+use Rattle.std.proofs.lemmas.Bool.{cases_lt, cases_eq}
 use Rattle.std.proofs.lemmas.List.{append-nil}
-use Rattle.diagram.specs.Diagrams.{Node, Level, Diagram, next, walk, Runs, Begins, Header, Before, SameRemainder, Reduced}
-use Rattle.diagram.specs.States.{nodes, Means, Closed, Apart, State, append1, Grows, Upto}
-use Rattle.diagram.proofs.Steady.{walk_step, header_step, header_cons, header_end, means_one, some_same}
+use Rattle.diagram.specs.Diagrams.{Diagram, next, walk, Begins, Header, Before, Reduced}
+use Rattle.diagram.specs.States.{nodes, Means, State, Upto}
+use Rattle.diagram.proofs.Steady.{walk_step, header_cons, means_one, some_same}
 use Rattle.diagram.proofs.Strings.{before_append, before_split, before_lower, before_raise, begins_parts, begins_join, begins_short, begins_value, begins_change}
 
 pub state_iff : (ws : List ℕ) (d : List ℕ → Option ℕ) (D : Diagram) (P Q : List ℕ → Type 0)

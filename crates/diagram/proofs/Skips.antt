@@ -1,7 +1,7 @@
 -- A string whose node is known already is done with all that goes on from it.
-use Rattle.std.proofs.Common.{◌≡◌, ℕ, zero, suc, ◌+◌, ◌-◌, ◌^◌, ◌<◌, ◌≤◌, ◌≢◌, ◌⊎◌, List, [], ◌∷◌, ◌++◌, length, get_or, drop, set, Option, sym, refl, ap, ◌∙◌, subst, inl, inr, append_assoc, arith}
-use Rattle.diagram.specs.Diagrams.{Node, Diagram, next, walk, Begins, Header, Before}
-use Rattle.diagram.specs.States.{nodes, Means, State, Grows, Upto, Built}
+use Rattle.std.proofs.Common.{ℕ, ◌<◌, List, length, drop, Option, sym, subst, inl, inr, arith}
+use Rattle.diagram.specs.Diagrams.{Diagram, walk, Begins, Before}
+use Rattle.diagram.specs.States.{nodes, Means, State, Built}
 use Rattle.diagram.proofs.Strings.{before_append}
 use Rattle.diagram.proofs.Steady.{grows_refl}
 use Rattle.diagram.proofs.Ranges.{lead}

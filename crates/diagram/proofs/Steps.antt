@@ -1,11 +1,10 @@
 -- The steps of building: a node is shared, a node is added, a range of values is done.
-use Rattle.std.proofs.Common.{◌≡◌, ℕ, zero, suc, ◌+◌, ◌-◌, ◌^◌, ◌<◌, ◌≤◌, ◌≢◌, ◌⊎◌, List, [], ◌∷◌, ◌++◌, length, get_or, drop, set, Some, None, Option, sym, refl, ap, ◌∙◌, subst, inl, inr, append_assoc, arith, length-append}
-use Rattle.std.proofs.lemmas.Bool.{cases_order, cases_lt, cases_eq}
+use Rattle.std.proofs.Common.{◌≡◌, ℕ, suc, ◌-◌, ◌^◌, ◌<◌, ◌≤◌, ◌≢◌, ◌⊎◌, List, [], ◌∷◌, ◌++◌, length, get_or, drop, Some, Option, sym, refl, ap, ◌∙◌, subst, inl, inr, arith}
+use Rattle.std.proofs.lemmas.Bool.{cases_lt, cases_eq}
 use Rattle.std.proofs.lemmas.List.{drop-set-lt, length-set}
-use Rattle.diagram.specs.Diagrams.{Node, Level, Diagram, next, walk, Runs, Begins, Header, Before}
+use Rattle.diagram.specs.Diagrams.{Node, Diagram, next, walk, Runs, Begins, Header, Before}
 use Rattle.diagram.specs.States.{nodes, Means, Closed, Apart, State, append1, Grows}
-use Rattle.diagram.proofs.Steady.{walk_step, header_step, header_cons, header_end, steady, level_here, level_other, nodes_here, nodes_other, nodes_more, node_same, node_new, append_grows, means_grows, means_back, means_one, some_same}
-use Rattle.diagram.proofs.Strings.{before_append, before_split, before_lower, before_raise, begins_parts, begins_join, begins_short, begins_value, begins_change}
+use Rattle.diagram.proofs.Steady.{walk_step, header_step, header_cons, header_end, nodes_here, nodes_other, node_same, node_new, append_grows, means_grows, means_one, some_same}
 use Rattle.diagram.proofs.Unique.{runs_unique}
 
 -- What is known of the edges of a node that is being made, for the string p.

@@ -1,9 +1,9 @@
 -- A decision has at most one reduced diagram.
-use Rattle.std.proofs.Common.{◌≡◌, ℕ, zero, suc, ◌+◌, ◌-◌, ◌^◌, ◌<◌, ◌≤◌, Bool, true, false, leb, ◌≢◌, ◌⊎◌, List, [], ◌∷◌, ◌++◌, length, get_or, drop, Some, None, Option, sym, refl, ap, ◌∙◌, subst, inl, inr, arith, length-append, pow_pos}
+use Rattle.std.proofs.Common.{◌≡◌, ℕ, zero, suc, ◌+◌, ◌-◌, ◌^◌, ◌<◌, ◌≤◌, true, false, leb, List, [], ◌∷◌, ◌++◌, length, get_or, drop, Some, Option, sym, refl, ap, ◌∙◌, subst, inl, inr, arith, length-append, pow_pos}
 use Rattle.diagram.specs.declared.edges.Edge.{Edge}
-use Rattle.std.proofs.lemmas.Bool.{le-leb, lt-leb, leb-true, cases_order, cases_lt}
-use Rattle.std.proofs.lemmas.List.{ext_get_or, drop_more}
-use Rattle.diagram.specs.Diagrams.{Node, Level, Diagram, next, walk, Runs, Begins, Header, Before, SameRemainder, Reduced, Determined}
+use Rattle.std.proofs.lemmas.Bool.{le-leb, lt-leb, cases_order, cases_lt}
+use Rattle.std.proofs.lemmas.List.{ext_get_or}
+use Rattle.diagram.specs.Diagrams.{Node, Diagram, next, walk, Runs, Begins, Header, Before, SameRemainder, Reduced, Determined}
 
 -- induction
 

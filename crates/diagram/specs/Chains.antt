@@ -1,5 +1,5 @@
 -- The rows of a chain.
-use Rattle.std.specs.Prelude.{◌≡◌, ℕ, zero, suc, ◌+◌, List, [], ◌∷◌, ◌++◌, map, length}
+use Rattle.std.specs.Prelude.{ℕ, ◌+◌, List, [], ◌∷◌, ◌++◌, map}
 use Rattle.diagram.specs.declared.edges.Edge.{Edge}
 use Rattle.diagram.specs.Diagrams.{Node, Level, Diagram}
 use Rattle.diagram.specs.Blocks.{Block, cover}

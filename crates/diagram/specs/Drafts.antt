@@ -1,6 +1,5 @@
 -- The edges of a node in the making.
-use Rattle.std.specs.Prelude.{◌≡◌, ℕ, zero, suc, ◌+◌, ◌-◌, ◌^◌, ◌<◌, ◌≤◌, Bool, true, false, List, [], ◌∷◌, ◌++◌, length, drop, Some, None, Option, ◌==◌}
-use Rattle.diagram.specs.declared.edges.Edge.{Edge}
+use Rattle.std.specs.Prelude.{◌≡◌, ℕ, suc, ◌<◌, true, false, List, [], ◌∷◌, ◌++◌, length, drop, Some, Option, ◌==◌}
 use Rattle.diagram.specs.Diagrams.{Node, Diagram, next, walk, Runs, Header}
 use Rattle.diagram.specs.States.{nodes}
 

@@ -1,5 +1,5 @@
 -- From the questions about a list to the further questions of a call.
-use Rattle.std.proofs.Common.{◌≡◌, ℕ, ◌≤◌, ◌⊎◌, List, length, Some, None, Option, refl, inl, inr, arith}
+use Rattle.std.proofs.Common.{◌≡◌, ℕ, ◌≤◌, List, length, Some, None, Option, inl, inr, arith}
 use Rattle.questions.specs.Asking.{accept}
 use Rattle.policy.specs.declared.rules.Rule.{Rule}
 use Rattle.policy.specs.Shapes.{AllGood}

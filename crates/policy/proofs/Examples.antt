@@ -1,5 +1,5 @@
 -- The worked examples, by computation.
-use Rattle.std.proofs.Common.{◌≡◌, ℕ, zero, suc, List, Some, None, Ok, Err, Option, Result, refl, subst, inl, inr, arith, lit<, lit≤}
+use Rattle.std.proofs.Common.{◌≡◌, ℕ, zero, suc, List, Some, Ok, Err, Option, Result, refl, subst, inl, inr, arith, lit<, lit≤}
 use Rattle.questions.specs.Asking.{refusal}
 use Rattle.policy.specs.declared.refusals.ListRefusal.TheVariants.{TooManyRules, BadRule}
 use Rattle.policy.specs.declared.refusals.Met.{Met}

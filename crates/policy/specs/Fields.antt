@@ -1,5 +1,5 @@
 -- The fields of a header, and numbers that fit them.
-use Rattle.std.specs.Prelude.{◌≡◌, ℕ, ◌^◌, ◌<◌, List, [], ◌∷◌}
+use Rattle.std.specs.Prelude.{ℕ, ◌^◌, ◌<◌, List, [], ◌∷◌}
 
 -- The width of each field in bits, in the order of the fields: source address, destination address,
 -- source port, destination port, protocol. Every definition goes over this list.

@@ -1,5 +1,5 @@
 -- Which bytes can be a word.
-use Rattle.std.specs.Prelude.{◌≡◌, ℕ, ◌<◌, ◌≤◌, List, length, ◌≢◌, slice_index}
+use Rattle.std.specs.Prelude.{ℕ, ◌<◌, ◌≤◌, List, length, ◌≢◌, slice_index}
 
 -- No byte of the list is this one.
 abbrev pub Lacks : ℕ → List ℕ → Type 0

@@ -2,7 +2,6 @@
 use Rattle.std.specs.Prelude.{ℕ, ◌+◌, T, List, [], ◌∷◌, ◌++◌, codes, decimal, Option, nat_eq, nat_le}
 use Rattle.std.proofs.Common.{leb→le}
 use Rattle.std.specs.Str.{bytes_eq}
-use Rattle.policy.specs.declared.reasons.Reason.{Reason}
 use Rattle.policy.specs.declared.verdict.Verdict.{Verdict}
 use Rattle.policy.specs.declared.verdict.Verdict.TheVariants.{Accept, Discard, Reject}
 use Rattle.policy.specs.Picks.{pick}

@@ -1,4 +1,4 @@
-use Rattle.std.proofs.Common.{◌≡◌, ℕ, ◌*◌, ◌%◌, ◌<◌, arith}
+use Rattle.std.proofs.Common.{◌≡◌, ◌*◌, ◌%◌, arith}
 use lib.Bits.{bit_and, and_mask}
 use Rattle.chain.proofs.Packed.{packed}
 use Rattle.chain.proofs.probe.block_key.Goals as goal

@@ -1,4 +1,4 @@
-use Rattle.std.proofs.Common.{◌≡◌, ◌-◌, ◌%◌, ◌^◌, ◌<◌, ◌≤◌, mod-eq_of_lt, arith, pow_mono, rules}
+use Rattle.std.proofs.Common.{◌≡◌, ◌-◌, ◌%◌, ◌^◌, ◌≤◌, mod-eq_of_lt, arith, pow_mono, rules}
 use Rattle.chain.proofs.probe.least_value.Goals as goal
 
 pub returns-else-free-lt32 : goal.returns-else-free-lt32

@@ -1,7 +1,6 @@
-use Rattle.std.proofs.Common.{◌≡◌, ℕ, ◌+◌, ◌-◌, ◌*◌, ◌%◌, ◌^◌, ◌<◌, ◌≤◌, List, [], ◌∷◌, sym, refl, ap, ◌∙◌, subst, arith}
+use Rattle.std.proofs.Common.{◌≡◌, ℕ, ◌+◌, ◌-◌, ◌*◌, ◌%◌, ◌^◌, ◌<◌, ◌≤◌, ◌∷◌, sym, refl, ap, ◌∙◌, subst, arith}
 use Rattle.std.proofs.lemmas.Nat.{one_shl, pow_pos}
-use Rattle.diagram.specs.Blocks.{Block, largest, cover}
-use Rattle.compile.specs.Pieces.{First}
+use Rattle.diagram.specs.Blocks.{cover}
 use Rattle.diagram.proofs.Covers.{cover_step}
 use Rattle.compile.proofs.blocks.next_block.Goals as goal
 

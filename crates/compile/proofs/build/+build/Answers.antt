@@ -1,4 +1,4 @@
-use Rattle.std.proofs.Common.{◌≡◌, ℕ, ◌+◌, ◌-◌, ◌<◌, List, [], length, get_or, take, set, None, Option, sym, refl, subst, arith, rules, MatchOption}
+use Rattle.std.proofs.Common.{◌≡◌, ℕ, ◌+◌, ◌-◌, List, [], length, get_or, take, set, None, Option, sym, refl, subst, arith, rules, MatchOption}
 use Rattle.policy.specs.Fields.{widths}
 use Rattle.policy.specs.Rules.{decide}
 use Rattle.diagram.specs.States.{Failed}

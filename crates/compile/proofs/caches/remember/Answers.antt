@@ -1,6 +1,5 @@
 use Rattle.std.proofs.Common.{length, sym, arith}
 use Rattle.std.proofs.lemmas.List.{set_past}
-use Rattle.std.proofs.lemmas.Bool.{eqb-true}
 use Rattle.compile.proofs.caches.remember.Goals as goal
 
 pub returns-else-not-is_empty : goal.returns-else-not-is_empty

@@ -1,5 +1,4 @@
-use Rattle.std.proofs.Common.{◌≡◌, ℕ, ◌+◌, ◌*◌, ◌%◌, ◌^◌, ◌<◌, ◌≤◌, sym, ap, ◌∙◌, arith}
-use lib.Bits.{bit_or}
+use Rattle.std.proofs.Common.{◌≡◌, ◌*◌, ◌%◌, arith}
 use Rattle.chain.proofs.Packed.{packed}
 use Rattle.compile.proofs.keys.row_key.Goals as goal
 

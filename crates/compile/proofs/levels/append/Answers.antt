@@ -1,4 +1,4 @@
-use Rattle.std.proofs.Common.{◌≡◌, ◌+◌, ◌<◌, ◌≤◌, length, take, drop, set, sym, refl, ◌∙◌, inl, inr, arith}
+use Rattle.std.proofs.Common.{◌+◌, ◌<◌, ◌≤◌, length, set, sym, refl, inl, inr, arith}
 use Rattle.compile.specs.declared.levels.Level.{Level}
 use Rattle.compile.proofs.Slots.{append_nodes, append_sound, nodes_length}
 use Rattle.compile.proofs.levels.append.Goals as goal

@@ -1,4 +1,4 @@
-use Rattle.std.proofs.Common.{◌≡◌, ◌<◌, sym, refl, ◌∙◌, arith, below_more}
+use Rattle.std.proofs.Common.{◌<◌, sym, refl, ◌∙◌, arith, below_more}
 use Rattle.compile.proofs.Slots.{nodes_length}
 use Rattle.compile.proofs.levels.find.Goals as goal
 

@@ -1,4 +1,4 @@
-use Rattle.std.proofs.Common.{◌<◌, length, arith, rules}
+use Rattle.std.proofs.Common.{◌<◌, length, rules}
 use Rattle.compile.proofs.Living.{narrow_above, narrow_below, narrow_in}
 use Rattle.compile.proofs.lives.narrow.Goals as goal
 

@@ -1,4 +1,4 @@
-use Rattle.std.proofs.Common.{◌≡◌, length, arith, rules}
+use Rattle.std.proofs.Common.{arith}
 use Rattle.std.proofs.lemmas.List.{length-set}
 use Rattle.compile.proofs.Filling.{edge_full, edge_more}
 use Rattle.compile.proofs.rows.edge_rows.Goals as goal

@@ -1,4 +1,4 @@
-use Rattle.std.proofs.Common.{◌≡◌, ℕ, ◌+◌, ◌-◌, ◌≤◌, ◌||◌, ◌++◌, length, take}
+use Rattle.std.proofs.Common.{◌+◌, ◌-◌, ◌≤◌, length}
 use Rattle.diagram.specs.Blocks.{cover}
 use Rattle.compile.proofs.Filling.{Filled}
 use Rattle.compile.specs.Writing.{rows_of, tiles_of}

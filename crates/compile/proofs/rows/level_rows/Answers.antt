@@ -1,4 +1,4 @@
-use Rattle.std.proofs.Common.{◌≡◌, ℕ, ◌+◌, ◌-◌, ◌^◌, ◌<◌, ◌||◌, List, [], ◌++◌, length, get_or, take, None, Option, sym, refl, ap, ◌∙◌, subst, arith, rules, MatchOption}
+use Rattle.std.proofs.Common.{◌≡◌, ℕ, ◌+◌, ◌-◌, ◌^◌, ◌<◌, ◌||◌, List, ◌++◌, length, take, None, Option, sym, ap, ◌∙◌, subst, arith, MatchOption}
 use Rattle.std.proofs.lemmas.List.{drop_all, append-nil}
 use Rattle.diagram.specs.Keys.{key}
 use Rattle.diagram.specs.Chains.{rows_of_edge, rows_of_level}

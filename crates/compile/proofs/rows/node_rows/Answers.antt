@@ -1,11 +1,11 @@
-use Rattle.std.proofs.Common.{◌≡◌, ℕ, ◌+◌, ◌^◌, ◌<◌, ◌≤◌, [], length, get_or, drop, None, Option, sym, refl, subst, arith, pow_mono, rules, MatchOption}
+use Rattle.std.proofs.Common.{◌≡◌, ◌^◌, ◌≤◌, None, Option, sym, subst, arith, pow_mono, MatchOption}
 use Rattle.std.proofs.lemmas.List.{drop_all}
 use Rattle.diagram.specs.Chains.{rows_of_edge}
 use Rattle.diagram.specs.Diagrams.{Node}
 use Rattle.chain.specs.Tables.{tiles, table}
 use Rattle.compile.specs.declared.rows.Written.{Written}
 use Rattle.compile.specs.Writing.{key_in}
-use Rattle.compile.proofs.Filling.{Filled, From, no_edge, from_start, edge_at, filled_none, filled_all, node_more, node_full}
+use Rattle.compile.proofs.Filling.{Filled, from_start, edge_at, filled_none, filled_all, node_more, node_full}
 use Rattle.compile.proofs.rows.node_rows.Goals as goal
 
 pub loop-edge-init : goal.loop-edge-init

@@ -1,4 +1,4 @@
-use Rattle.std.proofs.Common.{◌≡◌, ◌≤◌, length, drop}
+use Rattle.std.proofs.Common.{◌≤◌, length, drop}
 use Rattle.diagram.specs.Chains.{rows_of_edge}
 use Rattle.chain.specs.Tables.{tiles, table}
 use Rattle.compile.specs.Writing.{key_in}

@@ -1,4 +1,4 @@
-use Rattle.std.proofs.Common.{◌≡◌, ◌+◌, ◌*◌, ◌≤◌, length, vec_items, sym, ap}
+use Rattle.std.proofs.Common.{◌+◌, ◌*◌, ◌≤◌, length, vec_items, sym, ap}
 use Rattle.std.proofs.lemmas.List.{get_or_past}
 use Rattle.store.specs.declared.row.Row.{Row}
 use Rattle.store.specs.Rows.{blank}

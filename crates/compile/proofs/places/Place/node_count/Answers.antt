@@ -1,4 +1,4 @@
-use Rattle.std.proofs.Common.{◌≡◌, ◌<◌, [], length, sym, ap, ◌∙◌, rules}
+use Rattle.std.proofs.Common.{◌<◌, [], length, sym, ap, ◌∙◌, rules}
 use Rattle.std.proofs.lemmas.List.{get_or-map}
 use Rattle.compile.specs.declared.levels.Level.{Level}
 use Rattle.compile.specs.Levels.{nodes_of}

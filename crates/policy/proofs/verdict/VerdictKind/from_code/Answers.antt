@@ -1,4 +1,4 @@
-use Rattle.std.proofs.Common.{sym, arith}
+use Rattle.std.proofs.Common.{arith}
 use Rattle.policy.specs.declared.verdict.Verdict.TheVariants.{Accept, Discard, Reject}
 use Rattle.policy.specs.Verdicting.{code_found, code_of_no_verdict}
 use Rattle.policy.proofs.verdict.VerdictKind.from_code.Goals as goal

@@ -1,9 +1,8 @@
-use Rattle.std.proofs.Common.{◌≡◌, ℕ, Bool, true, false, List, ◌++◌, codes, decimal, Decides, sym, ap, ◌∙◌}
+use Rattle.std.proofs.Common.{◌≡◌, ℕ, Bool, false, List, ◌++◌, codes, decimal, Decides, sym, ap, ◌∙◌}
 use Rattle.std.proofs.lemmas.Slice.Eq.{slice_eq-Decides, strip_prefix_is}
 use Rattle.std.proofs.lemmas.List.{append_cancel_left}
 use Rattle.std.proofs.lemmas.Option.{MatchOption-at_some, MatchOption-at_none}
 use Rattle.std.proofs.lemmas.Bool.{both_ways}
-use Rattle.policy.specs.declared.reasons.Reason.{Reason}
 use Rattle.policy.specs.declared.verdict.Verdict.TheVariants.{Accept, Discard, Reject}
 use Rattle.policy.specs.Verdicting.{word_found, word_of_no_verdict}
 use Rattle.policy.proofs.verdict.VerdictKind.from_word.Goals as goal
