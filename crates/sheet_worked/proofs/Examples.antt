@@ -1,7 +1,6 @@
 -- What a computed fault tells.
-use Rattle.std.proofs.Common.{◌≡◌, ℕ, List, Some, None, Ok, Err, Option, Result, sym, refl, ap, ◌∙◌, arith}
+use Rattle.std.proofs.Common.{◌≡◌, ℕ, Some, Ok, Err, Result, ap, arith}
 use Rattle.faults.specs.declared.SheetFault.{SheetFault}
-use Rattle.faults.specs.declared.Told.{Told}
 use Rattle.faults.specs.Faults.{told}
 use Rattle.sheet.specs.Sheets.{Answer, Stops}
 use Rattle.sheet_worked.specs.Worked.{Refuses}

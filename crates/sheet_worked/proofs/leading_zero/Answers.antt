@@ -1,6 +1,6 @@
 use Rattle.std.proofs.Common.{codes, refl}
 use Rattle.policy.specs.Verdicts.{verdict_code, verdict_of_word}
-use Rattle.faults.specs.declared.FieldFault.TheVariants.{IllMade, OutOfRange}
+use Rattle.faults.specs.declared.FieldFault.TheVariants.{IllMade}
 use Rattle.faults.specs.declared.SheetFault.TheVariants.{Field}
 use Rattle.sheet.specs.Lines.{spot}
 use Rattle.sheet.specs.Sheets.{sheet_says, line_at, coded}
