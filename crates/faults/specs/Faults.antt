@@ -1,7 +1,5 @@
 -- What a fault tells.
 use Rattle.std.specs.Prelude.{ℕ}
-use Rattle.faults.specs.declared.Spot.{Spot}
-use Rattle.faults.specs.declared.TokenFault.{TokenFault}
 use Rattle.faults.specs.declared.FieldFault.{FieldFault}
 use Rattle.faults.specs.declared.FieldFault.TheVariants.{IllMade, Misfit, OutOfRange}
 use Rattle.faults.specs.declared.SheetFault.{SheetFault}

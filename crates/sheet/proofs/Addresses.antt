@@ -1,13 +1,13 @@
 -- An address as bytes, and what is read.
-use Rattle.std.proofs.Common.{◌≡◌, ℕ, zero, suc, ◌+◌, ◌-◌, ◌*◌, ◌%◌, ◌^◌, ◌<◌, ◌≤◌, Bool, true, false, cond, ◌&&◌, eqb, leb, List, [], ◌∷◌, ◌++◌, length, drop, Some, None, codes, decimal, Option, sym, refl, ap, ◌∙◌, subst, inl, inr, append_assoc, arith, length-append}
+use Rattle.std.proofs.Common.{◌≡◌, ℕ, ◌+◌, ◌-◌, ◌%◌, ◌^◌, ◌<◌, ◌≤◌, Bool, true, cond, ◌&&◌, eqb, leb, List, [], ◌∷◌, ◌++◌, length, drop, Some, None, codes, decimal, sym, refl, ap, ◌∙◌, inl, inr, append_assoc, arith, length-append}
 use Rattle.std.specs.Str.Parse.{digits_value}
 use Rattle.std.proofs.lemmas.Fmt.{decimal_is_IsNumeral}
 use Rattle.std.proofs.lemmas.Bool.{cases_Bool, and_parts, and_from, leb-true, le-leb, eq-eqb, eqb-true}
 use Rattle.policy.specs.declared.rules.Range.{Range}
-use Rattle.sheet.specs.declared.tokens.Mark.TheVariants.{Dot, Slash, Dash, Star, Comma, LineFeed}
+use Rattle.sheet.specs.declared.tokens.Mark.TheVariants.{Dot, Slash, Star, Comma}
 use Rattle.faults.specs.declared.Spot.{Spot}
-use Rattle.sheet.specs.Tokens.{token, number, mark}
-use Rattle.sheet.specs.Forms.{Want, digits, the, Read, got, noted, walk, address_form, address_rest}
+use Rattle.sheet.specs.Tokens.{number, mark}
+use Rattle.sheet.specs.Forms.{Want, digits, the, got, noted, walk, address_form}
 use Rattle.sheet.specs.Readings.{span, address_low, is_block, address_at, address_of, meant, ranged}
 use Rattle.sheet.specs.Meaning.{Address, every, block}
 use Rattle.sheet.proofs.Numbers.{past}

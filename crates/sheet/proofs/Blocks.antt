@@ -1,6 +1,6 @@
 -- A block ends within 32 bits.
-use Rattle.std.proofs.Common.{◌≡◌, ℕ, suc, ◌+◌, ◌-◌, ◌*◌, ◌/◌, ◌%◌, ◌^◌, ◌<◌, ◌≤◌, sym, refl, ap, ◌∙◌, subst, mod-eq_of_lt, mul_comm, mul-le-mul_left, mul-suc, arith, pow_pos, pow_mono, pow-add, shr_lt}
-use native.Mathlib.Nat.{div-add-mod}
+use Rattle.std.proofs.Common.{◌≡◌, ℕ, ◌+◌, ◌-◌, ◌*◌, ◌/◌, ◌%◌, ◌^◌, ◌<◌, ◌≤◌, sym, ap, ◌∙◌, subst, mod-eq_of_lt, mul_comm, mul-le-mul_left, mul-suc, arith, pow_mono, pow-add, shr_lt}
+use Rattle.std.proofs.Math.Nat.{div-add-mod}
 
 pub block_top : (low k : ℕ) → k ≤ 32 → low < 2 ^ 32 → low % 2 ^ k ≡ 0 → low + 2 ^ k ≤ 2 ^ 32
 block_top low k h small e =

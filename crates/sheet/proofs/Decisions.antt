@@ -1,10 +1,10 @@
 -- The sixth field.
-use Rattle.std.proofs.Common.{◌≡◌, ℕ, ◌+◌, ◌-◌, min, List, [], ◌∷◌, length, take, drop, Some, None, Option, sym, refl, ap, ◌∙◌, subst}
+use Rattle.std.proofs.Common.{◌≡◌, ℕ, ◌+◌, ◌-◌, min, List, length, take, drop, Option, sym, ap, ◌∙◌, subst}
 use Rattle.policy.specs.declared.rules.Range.{Range}
 use Rattle.sheet.specs.Tokens.{run}
-use Rattle.sheet.specs.Forms.{Read, got}
+use Rattle.sheet.specs.Forms.{got}
 use Rattle.sheet.specs.Lines.{spot, ranges_at}
-use Rattle.sheet.specs.Sheets.{not_feed, line_at, with_decision, decided, coded, number_of, up_to_feed, Lined}
+use Rattle.sheet.specs.Sheets.{not_feed, line_at, with_decision, decided, coded, number_of, up_to_feed}
 use Rattle.sheet.proofs.Taking.{part_is}
 
 pub line_word : {D : Type 0} (named : List ℕ → Option D) (numbered : D → ℕ) (s s' : List ℕ) (l at from end : ℕ) (r : List Range) (o : Option D) → s' ≡ s →

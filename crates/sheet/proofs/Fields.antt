@@ -1,9 +1,7 @@
 -- One field after another.
-use Rattle.std.proofs.Common.{◌≡◌, ℕ, List, [], ◌∷◌, sym, refl, ap, ◌∙◌}
-use Rattle.policy.specs.declared.rules.Range.{Range}
+use Rattle.std.proofs.Common.{◌≡◌, ℕ, List, sym, ap, ◌∙◌}
 use Rattle.faults.specs.declared.Spot.{Spot}
-use Rattle.faults.specs.declared.FieldFault.{FieldFault}
-use Rattle.sheet.specs.Forms.{Read, got, fault}
+use Rattle.sheet.specs.Forms.{Read}
 use Rattle.sheet.specs.Lines.{spot, and_then}
 
 module _ {A B : Type 0} (read : List ℕ → Spot → ℕ → Read A) (i : ℕ) (f : A → ℕ → Read B) (s s' : List ℕ) (l l' at : ℕ) (es : s' ≡ s) (el : l' ≡ l) where

@@ -1,5 +1,5 @@
 -- A header line as bytes, and what is read.
-use Rattle.std.proofs.Common.{◌≡◌, ℕ, zero, suc, ◌+◌, ◌<◌, ◌≤◌, Bool, true, false, cond, ◌&&◌, leb, List, [], ◌∷◌, ◌++◌, length, drop, Some, None, decimal, Option, sym, refl, ap, ◌∙◌, subst, inl, inr, append_assoc, arith, length-append, length-drop}
+use Rattle.std.proofs.Common.{◌≡◌, ℕ, ◌+◌, ◌<◌, ◌≤◌, Bool, true, cond, ◌&&◌, leb, List, [], ◌∷◌, ◌++◌, length, drop, Some, None, decimal, sym, refl, ap, ◌∙◌, subst, inl, inr, append_assoc, arith, length-append, length-drop}
 use Rattle.std.proofs.lemmas.Bool.{cases_Bool, and_parts, and_from, leb-true, le-leb}
 use Rattle.policy.specs.declared.fields.Header.{Header}
 use Rattle.faults.specs.declared.Spot.{Spot}
@@ -12,7 +12,6 @@ use Rattle.sheet.specs.Lines.{spot}
 use Rattle.sheet.specs.Readings.{address_low, meant, ranged}
 use Rattle.sheet.specs.Sheets.{not_feed, good}
 use Rattle.sheet.specs.Meaning.{Dotted, UpTo, HeaderLine}
-use Rattle.sheet.proofs.Numbers.{past}
 use Rattle.sheet.proofs.PortsOnly.{meant_got}
 use Rattle.sheet.proofs.Singles.{single_way}
 use Rattle.sheet.proofs.Sound.{Spelt, In, here, there, walk_sound}

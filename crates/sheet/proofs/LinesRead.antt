@@ -1,5 +1,5 @@
 -- A line as bytes, and what is read.
-use Rattle.std.proofs.Common.{◌≡◌, ℕ, zero, suc, ◌+◌, ◌-◌, ◌<◌, ◌≤◌, min, Bool, true, false, cond, List, [], ◌∷◌, ◌++◌, length, take, drop, Some, None, Option, sym, refl, ap, ◌∙◌, subst, append_assoc, arith, length-append, length-drop}
+use Rattle.std.proofs.Common.{◌≡◌, ℕ, suc, ◌+◌, ◌<◌, ◌≤◌, min, List, [], ◌∷◌, ◌++◌, length, take, drop, Some, None, Option, sym, refl, ap, ◌∙◌, subst, append_assoc, arith, length-append, length-drop}
 use Rattle.std.proofs.lemmas.List.{take_at, drop-drop}
 use Rattle.policy.specs.declared.rules.Range.{Range}
 use Rattle.policy.specs.declared.rules.Rule.{Rule}
@@ -8,14 +8,14 @@ use Rattle.sheet.specs.Tokens.{run}
 use Rattle.sheet.specs.Forms.{Read, got, fault}
 use Rattle.sheet.specs.Readings.{address_at, port_at, protocol_at}
 use Rattle.sheet.specs.Lines.{spot, and_then, ranges_at}
-use Rattle.sheet.specs.Sheets.{not_feed, up_to_feed, Lined, good, bad, decided, with_decision, line_at}
+use Rattle.sheet.specs.Sheets.{not_feed, up_to_feed, good, decided, with_decision, line_at}
 use Rattle.sheet.specs.Meaning.{Parts, joined, Line, Port, Address, Protocol}
 use Rattle.sheet.proofs.Numbers.{past}
 use Rattle.sheet.proofs.Ports.{port_found}
 use Rattle.sheet.proofs.PortsOnly.{port_only}
 use Rattle.sheet.proofs.Addresses.{address_found, address_only}
 use Rattle.sheet.proofs.Protocols.{protocol_found, protocol_only}
-use Rattle.sheet.proofs.Unfed.{Unfed, unfed_append, unfed_port, unfed_address, unfed_protocol, run_free, split_feed}
+use Rattle.sheet.proofs.Unfed.{Unfed, unfed_port, unfed_address, unfed_protocol, run_free, split_feed}
 
 -- What follows a field and its comma.
 pub after_field : (s field rest : List ℕ) (at : ℕ) → drop at s ≡ field ++ (44 ∷ rest) → drop (at + (length field + 1)) s ≡ rest

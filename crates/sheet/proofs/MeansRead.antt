@@ -1,6 +1,6 @@
 -- A sheet as bytes, and what is read.
-use Rattle.std.proofs.Common.{◌≡◌, ℕ, zero, suc, ◌+◌, ◌-◌, ◌<◌, ◌≤◌, min, Bool, true, false, cond, List, [], ◌∷◌, ◌++◌, length, take, drop, Some, None, Ok, Err, Option, Result, sym, refl, ap, ◌∙◌, subst, inl, inr, append_assoc, append-nil, arith, length-append, length-drop}
-use Rattle.std.proofs.lemmas.List.{take_at, drop-drop, drop_at}
+use Rattle.std.proofs.Common.{◌≡◌, ℕ, zero, suc, ◌+◌, ◌<◌, ◌≤◌, min, Bool, cond, List, [], ◌∷◌, ◌++◌, length, take, drop, Some, None, Ok, Err, Option, Result, sym, refl, ap, ◌∙◌, subst, inl, inr, append_assoc, arith, length-append, length-drop}
+use Rattle.std.proofs.lemmas.List.{take_at}
 use Rattle.std.proofs.lemmas.Bool.{cases_lt, lt-leb}
 use Rattle.policy.specs.declared.rules.Rule.{Rule}
 use Rattle.policy.specs.Letters.{IsWord}
@@ -8,10 +8,10 @@ use Rattle.faults.specs.declared.SheetFault.{SheetFault}
 use Rattle.faults.specs.declared.SheetFault.TheVariants.{TooLong, NoPlace, NoLineFeed}
 use Rattle.sheet.specs.Tokens.{run}
 use Rattle.sheet.specs.Sheets.{not_feed, Lined, good, bad, line_at, Answer, Answers, stopped, before, next_line, lines_at, sheet_says, coded, number_of}
-use Rattle.sheet.specs.Meaning.{Parts, joined, Line, Means, nothing, line, OneMeaning, Settles}
+use Rattle.sheet.specs.Meaning.{joined, Line, Means, nothing, line, OneMeaning, Settles}
 use Rattle.sheet.proofs.Numbers.{past}
-use Rattle.sheet.proofs.LinesRead.{line_found, LineRead, line_only, apart}
-use Rattle.sheet.proofs.Turns.{clean, at_end, no_place, on_line, no_feed, says}
+use Rattle.sheet.proofs.LinesRead.{line_found, line_only}
+use Rattle.sheet.proofs.Turns.{at_end, no_place, on_line, no_feed, says}
 use Rattle.sheet.proofs.Unfed.{Unfed, unfed_lacks, run_before}
 
 -- Every word of the kind is without a line feed.

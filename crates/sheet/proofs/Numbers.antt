@@ -1,14 +1,14 @@
 -- A number in decimal is a token.
-use Rattle.std.proofs.Common.{◌≡◌, ℕ, zero, suc, ◌+◌, ◌-◌, ◌^◌, ◌<◌, ◌≤◌, Bool, true, false, cond, not, ◌&&◌, ◌||◌, eqb, leb, ◌⊎◌, List, [], ◌∷◌, ◌++◌, length, get_or, take, drop, Some, None, decimal, Option, sym, refl, ap, ◌∙◌, subst, inl, inr, arith}
-use Rattle.std.specs.Str.Parse.{AllDigits, digits_value, IsNumeral}
+use Rattle.std.proofs.Common.{◌≡◌, ℕ, suc, ◌+◌, ◌<◌, Bool, true, false, cond, eqb, List, [], ◌∷◌, ◌++◌, length, get_or, take, drop, Some, None, decimal, sym, refl, ap, ◌∙◌, inl, inr, arith}
+use Rattle.std.specs.Str.Parse.{AllDigits}
 use Rattle.std.specs.Char.{digit_value}
 use Rattle.std.proofs.lemmas.Bool.{le-leb, and_from, or_left, or_right, ne_eqb, not_from_false, cases_lt, eq-eqb}
 use Rattle.std.proofs.lemmas.Bool.Decides.{nat_tests}
 use Rattle.std.proofs.lemmas.Fmt.{decimal_is_IsNumeral, length-decimal-le, first_decimal, decimal_digit}
 use Rattle.std.proofs.lemmas.List.{take_at, drop-drop, drop_at}
 use Rattle.sheet.specs.declared.tokens.Begins.{Begins}
-use Rattle.sheet.specs.declared.tokens.Begins.TheVariants.{Number, Word, One, Nothing}
-use Rattle.sheet.specs.Tokens.{run, is_digit, begins, token, begun, Tok, number, well_made, digits_of}
+use Rattle.sheet.specs.declared.tokens.Begins.TheVariants.{Number}
+use Rattle.sheet.specs.Tokens.{run, is_digit, begins, token, begun, number, well_made, digits_of}
 
 is_digit_from : (b : ℕ) → digit_value b < 10 → is_digit b ≡ true
 is_digit_from b h = grind (arith, nat_tests)

@@ -1,14 +1,13 @@
 -- A port as bytes, and what is read.
-use Rattle.std.proofs.Common.{◌≡◌, ℕ, zero, suc, ◌+◌, ◌-◌, ◌^◌, ◌<◌, ◌≤◌, Bool, true, false, cond, not, ◌&&◌, ◌||◌, eqb, leb, List, [], ◌∷◌, ◌++◌, length, get_or, take, drop, Some, None, codes, decimal, Option, sym, refl, ap, ◌∙◌, subst, append_assoc, arith, length-append}
-use Rattle.std.specs.Str.Parse.{AllDigits, digits_value}
+use Rattle.std.proofs.Common.{◌≡◌, ℕ, ◌+◌, ◌<◌, ◌≤◌, false, leb, List, [], ◌∷◌, ◌++◌, length, drop, Some, decimal, sym, refl, ap, ◌∙◌, append_assoc, arith, length-append}
+use Rattle.std.specs.Str.Parse.{digits_value}
 use Rattle.std.proofs.lemmas.Bool.{le-leb, and_from}
 use Rattle.std.proofs.lemmas.Fmt.{decimal_is_IsNumeral}
-use Rattle.sheet.specs.declared.tokens.Mark.{Mark}
-use Rattle.sheet.specs.declared.tokens.Mark.TheVariants.{Dot, Slash, Dash, Star, Comma, LineFeed}
+use Rattle.sheet.specs.declared.tokens.Mark.TheVariants.{Dash, Star, Comma}
 use Rattle.policy.specs.declared.rules.Range.{Range}
 use Rattle.faults.specs.declared.Spot.{Spot}
 use Rattle.sheet.specs.Tokens.{token, Tok, number, word, mark, size}
-use Rattle.sheet.specs.Forms.{Want, digits, the, Read, got, fault, noted, walk, port_form, port_rest, turn}
+use Rattle.sheet.specs.Forms.{digits, the, Read, got, noted, walk, port_form, port_rest}
 use Rattle.sheet.specs.Readings.{span, port_at, port_of, meant, ranged}
 use Rattle.sheet.specs.Meaning.{Port, every, single, between}
 use Rattle.sheet.proofs.Numbers.{token_decimal, past}

@@ -1,13 +1,12 @@
 -- Whatever is read as a port is one.
-use Rattle.std.proofs.Common.{◌≡◌, ℕ, zero, suc, ◌+◌, ◌<◌, ◌≤◌, Bool, true, false, cond, ◌&&◌, leb, List, [], ◌∷◌, ◌++◌, length, drop, Some, None, codes, decimal, Option, sym, refl, ap, ◌∙◌, subst, inl, inr, append_assoc, append-nil, arith, length-append}
+use Rattle.std.proofs.Common.{◌≡◌, ℕ, ◌+◌, ◌≤◌, Bool, cond, ◌&&◌, leb, List, [], ◌∷◌, ◌++◌, length, drop, Some, None, codes, decimal, Option, sym, refl, ap, ◌∙◌, inl, inr, append_assoc, arith, length-append}
 use Rattle.std.proofs.lemmas.Bool.{cases_Bool, and_parts, leb-true}
-use Rattle.sheet.specs.declared.tokens.Mark.TheVariants.{Dot, Slash, Dash, Star, Comma, LineFeed}
 use Rattle.policy.specs.declared.rules.Range.{Range}
 use Rattle.faults.specs.declared.Spot.{Spot}
-use Rattle.sheet.specs.Forms.{Want, digits, the, Read, got, fault, walk, port_form}
+use Rattle.sheet.specs.Forms.{Want, Read, got, fault, walk, port_form}
 use Rattle.sheet.specs.Readings.{span, port_at, port_of, meant, ranged}
 use Rattle.sheet.specs.Meaning.{Port, every, single, between}
-use Rattle.sheet.proofs.Sound.{Spelt, In, here, there, Stands, walk_sound}
+use Rattle.sheet.proofs.Sound.{Spelt, In, here, there, walk_sound}
 
 -- Whatever a reading of a field answers is what bytes before a comma mean.
 abbrev pub Only : (List ℕ → Spot → ℕ → Read Range) → (List ℕ → Range → Type 0) → Type 0

@@ -1,12 +1,12 @@
 -- A protocol as bytes, and what is read.
-use Rattle.std.proofs.Common.{◌≡◌, ℕ, zero, suc, ◌+◌, ◌<◌, ◌≤◌, Bool, true, false, cond, leb, List, [], ◌∷◌, ◌++◌, length, drop, Some, None, codes, decimal, Option, sym, refl, ap, ◌∙◌, subst, inl, inr, append_assoc, arith, length-append}
+use Rattle.std.proofs.Common.{◌≡◌, ℕ, ◌+◌, ◌≤◌, Bool, cond, leb, List, [], ◌∷◌, ◌++◌, length, drop, Some, None, codes, decimal, sym, refl, ap, ◌∙◌, inl, inr, append_assoc, arith, length-append}
 use Rattle.std.specs.Str.Parse.{digits_value}
 use Rattle.std.proofs.lemmas.Fmt.{decimal_is_IsNumeral}
 use Rattle.std.proofs.lemmas.Bool.{cases_Bool, leb-true, le-leb}
 use Rattle.policy.specs.declared.rules.Range.{Range}
-use Rattle.sheet.specs.declared.tokens.Mark.TheVariants.{Dot, Slash, Dash, Star, Comma, LineFeed}
+use Rattle.sheet.specs.declared.tokens.Mark.TheVariants.{Star, Comma}
 use Rattle.faults.specs.declared.Spot.{Spot}
-use Rattle.sheet.specs.Tokens.{token, Tok, number, word, mark, size}
+use Rattle.sheet.specs.Tokens.{token, number, word, mark}
 use Rattle.sheet.specs.Forms.{Want, digits, the, name, figures, Read, got, noted, walk, after, protocol_form}
 use Rattle.sheet.specs.Readings.{span, protocol_at, protocol_of, meant, ranged}
 use Rattle.sheet.specs.Meaning.{Protocol, every, single, tcp, udp, icmp}

@@ -1,19 +1,18 @@
 -- Where the reading of a sheet stops.
-use Rattle.std.proofs.Common.{◌≡◌, ℕ, zero, suc, ◌+◌, ◌-◌, ◌<◌, ◌≤◌, min, Bool, true, false, cond, not, eqb, List, [], ◌∷◌, ◌++◌, length, get_or, take, drop, Some, None, Ok, Err, Option, Result, sym, refl, ap, ◌∙◌, subst, inl, inr, append_assoc, append-nil, arith, length-append, length-drop, length-take}
-use Rattle.std.proofs.lemmas.List.{take_at, drop-drop, take-append-drop}
+use Rattle.std.proofs.Common.{◌≡◌, ℕ, zero, suc, ◌+◌, ◌<◌, ◌≤◌, min, Bool, cond, eqb, List, [], ◌∷◌, ◌++◌, length, take, drop, Some, None, Ok, Err, Option, Result, sym, refl, ap, ◌∙◌, subst, inl, inr, append_assoc, append-nil, arith, length-append, length-drop, length-take}
+use Rattle.std.proofs.lemmas.List.{take_at, take-append-drop}
 use Rattle.std.proofs.lemmas.Bool.{cases_lt, lt-leb, cases_Bool, not-true, eqb-false}
 use Rattle.policy.specs.declared.rules.Range.{Range}
 use Rattle.policy.specs.declared.rules.Rule.{Rule}
 use Rattle.policy.specs.Letters.{Lacks}
 use Rattle.faults.specs.declared.Spot.{Spot}
-use Rattle.faults.specs.declared.FieldFault.{FieldFault}
 use Rattle.faults.specs.declared.SheetFault.{SheetFault}
 use Rattle.faults.specs.declared.SheetFault.TheVariants.{TooLong, NoPlace, NoLineFeed, Field, NoWord}
 use Rattle.sheet.specs.Tokens.{run}
 use Rattle.sheet.specs.Forms.{Read, got, fault}
 use Rattle.sheet.specs.Lines.{spot, ranges_at}
-use Rattle.sheet.specs.Sheets.{not_feed, up_to_feed, Lined, good, bad, decided, with_decision, line_at, Answer, Answers, stopped, before, next_line, lines_at, sheet_says}
-use Rattle.sheet.specs.Meaning.{Parts, joined, Line, Means, nothing, line}
+use Rattle.sheet.specs.Sheets.{not_feed, up_to_feed, Lined, good, bad, decided, with_decision, line_at, Answer, Answers, stopped, next_line, lines_at, sheet_says}
+use Rattle.sheet.specs.Meaning.{Line, Means, nothing, line}
 use Rattle.sheet.specs.Refusing.{Wordless, Wrong, StopsAt, Stopped, RefusesRightly, RefusalsRight}
 use Rattle.sheet.proofs.LinesRead.{LineRead, line_only, got_same}
 use Rattle.sheet.proofs.MeansRead.{never}

@@ -1,15 +1,15 @@
 -- One way to write a field, walked from its bytes.
-use Rattle.std.proofs.Common.{◌≡◌, ℕ, zero, suc, ◌+◌, ◌<◌, ◌≤◌, Bool, true, false, cond, List, [], ◌∷◌, ◌++◌, length, drop, Some, None, decimal, Option, sym, refl, ap, ◌∙◌, subst, append_assoc, append-nil, arith, length-append}
+use Rattle.std.proofs.Common.{◌≡◌, ℕ, zero, suc, ◌+◌, ◌≤◌, Bool, true, false, cond, List, [], ◌∷◌, ◌++◌, length, drop, Some, decimal, sym, refl, ap, ◌∙◌, append_assoc, arith, length-append}
 use Rattle.std.specs.Str.Parse.{digits_value}
 use Rattle.std.proofs.lemmas.Fmt.{decimal_is_IsNumeral}
 use Rattle.sheet.specs.declared.tokens.Mark.{Mark}
 use Rattle.sheet.specs.declared.tokens.Mark.TheVariants.{Dot, Slash, Dash, Star, Comma, LineFeed}
 use Rattle.faults.specs.declared.Spot.{Spot}
-use Rattle.sheet.specs.Tokens.{is_digit, token, Tok, number, word, mark, size}
-use Rattle.sheet.specs.Forms.{Want, digits, the, name, byte, fits, Read, got, noted, went, walk}
-use Rattle.sheet.proofs.Numbers.{token_decimal, past}
+use Rattle.sheet.specs.Tokens.{is_digit, token, number, mark}
+use Rattle.sheet.specs.Forms.{Want, digits, the, name, byte, fits, got, noted, went, walk}
+use Rattle.sheet.proofs.Numbers.{past}
 use Rattle.sheet.proofs.Ports.{number_token}
-use Rattle.sheet.proofs.Sound.{NumberFirst, MarkFirst, NameFirst, Spelt}
+use Rattle.sheet.proofs.Sound.{Spelt}
 use Rattle.sheet.proofs.Walks.{walk_at}
 
 pub mark_token : (m : Mark) (s rest : List ℕ) (at : ℕ) → drop at s ≡ byte m ∷ rest → token (drop at s) ≡ Some (mark m)

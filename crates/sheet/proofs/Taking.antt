@@ -1,14 +1,14 @@
 -- What is known of the token that begins at a byte.
-use Rattle.std.proofs.Common.{◌≡◌, ℕ, zero, suc, ◌+◌, ◌-◌, ◌^◌, ◌<◌, ◌≤◌, Bool, true, false, cond, ◌&&◌, eqb, leb, List, [], ◌∷◌, length, get_or, take, drop, Some, None, Option, sym, refl, ap, ◌∙◌, subst, zero-lt-suc, arith, length-drop, length-take, get_or-drop, drop-cons, rules}
-use native.Mathlib.Nat.{pow-le-pow_right}
+use Rattle.std.proofs.Common.{◌≡◌, ℕ, zero, suc, ◌+◌, ◌-◌, ◌^◌, ◌<◌, ◌≤◌, Bool, true, false, cond, List, [], ◌∷◌, length, get_or, take, drop, Some, None, inl, inr, sym, refl, ap, ◌∙◌, subst, zero-lt-suc, arith, length-take, drop-cons}
+use Rattle.std.proofs.Math.Nat.{pow-le-pow_right}
 use Rattle.std.specs.Str.Parse.{AllDigits, digits_value}
 use Rattle.std.specs.Char.{digit_value}
 use Rattle.std.proofs.lemmas.Int.Digits.{digits_value-lt}
-use Rattle.std.proofs.lemmas.Bool.{leb-true, and_parts, cases_Bool, both_ways}
+use Rattle.std.proofs.lemmas.Bool.{leb-true, and_parts, cases_Bool}
 use Rattle.std.proofs.lemmas.Bool.Decides.{nat_tests}
 use Rattle.sheet.specs.declared.tokens.Begins.{Begins}
-use Rattle.sheet.specs.declared.tokens.Begins.TheVariants.{Number, Word, One, Nothing}
-use Rattle.sheet.specs.Tokens.{run, is_digit, is_letter, begins, token, begun, Tok, number, word, mark, well_made, digits_of, letters_of}
+use Rattle.sheet.specs.declared.tokens.Begins.TheVariants.{Number, Word}
+use Rattle.sheet.specs.Tokens.{run, is_digit, is_letter, begins, token, begun, number, word, well_made, digits_of}
 use Rattle.sheet.proofs.Runs.{run_le}
 
 pub digit_value_small : (b : ℕ) → is_digit b ≡ true → digit_value b < 10
@@ -18,8 +18,8 @@ pub digits_digits : (bs : List ℕ) → AllDigits 10 (digits_of bs)
 digits_digits [] = tt
 digits_digits (b ∷ bs) =
     elim (cases_Bool (is_digit b)) [
-      | mathlib.Core.Logic.inl e ↦ rw e (digit_value b e, digits_digits bs)
-      | mathlib.Core.Logic.inr e ↦ rw e tt
+      | inl e ↦ rw e (digit_value_small b e, digits_digits bs)
+      | inr e ↦ rw e tt
     ]
 
 pub digit_begins : (b : ℕ) → begins b ≡ Number → is_digit b ≡ true

@@ -1,12 +1,12 @@
 -- A field's tokens one after another.
-use Rattle.std.proofs.Common.{◌≡◌, ℕ, zero, suc, ◌+◌, Bool, true, false, cond, List, [], ◌∷◌, ◌++◌, length, drop, Some, None, Option, sym, refl, ap, ◌∙◌, append_assoc}
-use mathlib.Core.Path.{fun_ext}
+use Rattle.std.proofs.Common.{◌≡◌, ℕ, suc, ◌+◌, true, false, cond, List, [], ◌∷◌, ◌++◌, length, drop, Some, None, Option, sym, refl, ap, ◌∙◌, append_assoc}
+use Rattle.std.proofs.Math.Path.{fun_ext}
 use Rattle.faults.specs.declared.FieldFault.{FieldFault}
 use Rattle.std.specs.Str.Parse.{digits_value}
 use Rattle.sheet.specs.Readings.{address_at, address_of, meant}
 use Rattle.faults.specs.declared.Spot.{Spot}
-use Rattle.sheet.specs.Tokens.{Tok, number, word, mark, token, size}
-use Rattle.sheet.specs.Forms.{Want, Read, got, fault, noted, fits, figures, went, turn, walk, expect, address_form, address_rest}
+use Rattle.sheet.specs.Tokens.{Tok, number, token}
+use Rattle.sheet.specs.Forms.{Want, Read, got, fault, noted, fits, went, turn, walk, expect, address_form, address_rest}
 
 -- What was read, and then what follows it.
 abbrev pub chained : Read (List ℕ) → (ℕ → Read (List ℕ)) → Read (List ℕ)

@@ -1,20 +1,18 @@
 -- Where the reading of a field stops.
-use Rattle.std.proofs.Common.{◌≡◌, ℕ, zero, suc, ◌+◌, ◌≤◌, Bool, true, false, cond, ◌⊎◌, List, [], ◌∷◌, ◌++◌, length, drop, Some, None, Option, sym, refl, ap, ◌∙◌, subst, inl, inr, arith}
+use Rattle.std.proofs.Common.{◌≡◌, ℕ, zero, suc, ◌+◌, ◌≤◌, Bool, true, false, cond, List, [], ◌∷◌, ◌++◌, length, drop, Some, None, Option, sym, refl, ap, ◌∙◌, subst, inl, inr, arith}
 use Rattle.std.proofs.lemmas.Bool.{cases_Bool}
 use Rattle.policy.specs.declared.rules.Range.{Range}
 use Rattle.faults.specs.declared.Spot.{Spot}
-use Rattle.faults.specs.declared.TokenFault.{TokenFault}
 use Rattle.faults.specs.declared.FieldFault.{FieldFault}
 use Rattle.faults.specs.declared.FieldFault.TheVariants.{IllMade, Misfit, OutOfRange}
 use Rattle.sheet.specs.Tokens.{Tok, token, size}
 use Rattle.sheet.specs.Forms.{Want, fits, figures, after, ended, Read, got, fault, noted, went, turn, walk, address_form, port_form, protocol_form}
 use Rattle.sheet.specs.Lines.{spot, and_then, ranges_at}
 use Rattle.sheet.specs.Readings.{address_of, port_of, protocol_of, address_at, port_at, protocol_at, meant, ranged}
-use Rattle.sheet.specs.Meaning.{Address, Port, Protocol}
-use Rattle.sheet.specs.Refusing.{Reached, here, next, IllMadeAt, MisfitAt, OutOfRangeAt, FieldStops, RightField, FieldWrong, in_source, in_destination, in_source_port, in_destination_port, in_protocol}
+use Rattle.sheet.specs.Meaning.{Address, Port}
+use Rattle.sheet.specs.Refusing.{here, next, IllMadeAt, MisfitAt, FieldStops, RightField, FieldWrong, in_source, in_destination, in_source_port, in_destination_port, in_protocol}
 use Rattle.sheet.proofs.Addresses.{address_only}
 use Rattle.sheet.proofs.PortsOnly.{Only, port_only}
-use Rattle.sheet.proofs.Protocols.{protocol_only}
 
 -- No way is longer than k.
 abbrev Deep : ℕ → List (List Want) → Type 0

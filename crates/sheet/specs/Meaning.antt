@@ -1,5 +1,5 @@
 -- What the bytes of a sheet mean.
-use Rattle.std.specs.Prelude.{◌≡◌, ℕ, ◌+◌, ◌-◌, ◌*◌, ◌%◌, ◌^◌, ◌≤◌, List, [], ◌∷◌, ◌++◌, length, take, Some, None, Ok, Err, codes, decimal, Option, Result}
+use Rattle.std.specs.Prelude.{◌≡◌, ℕ, ◌+◌, ◌-◌, ◌%◌, ◌^◌, ◌≤◌, List, [], ◌∷◌, ◌++◌, length, take, Some, Ok, Err, codes, decimal, Option, Result}
 use Rattle.policy.specs.declared.fields.Header.{Header}
 use Rattle.policy.specs.declared.rules.Range.{Range}
 use Rattle.policy.specs.declared.rules.Rule.{Rule}

@@ -1,5 +1,5 @@
 -- What the numbers of a field mean.
-use Rattle.std.specs.Prelude.{◌≡◌, ℕ, ◌+◌, ◌-◌, ◌*◌, ◌%◌, ◌^◌, ◌≤◌, Bool, true, false, cond, ◌&&◌, List, [], ◌∷◌, length, drop, Some, None, Ok, Err, Option, Result, ◌==◌, nat_le}
+use Rattle.std.specs.Prelude.{◌≡◌, ℕ, ◌+◌, ◌-◌, ◌*◌, ◌%◌, ◌^◌, ◌≤◌, Bool, cond, ◌&&◌, List, [], ◌∷◌, length, drop, Some, None, Ok, Err, Option, Result, ◌==◌, nat_le}
 use Rattle.std.specs.Str.Parse.{AllDigits}
 use Rattle.sheet.specs.declared.tokens.Token.{Token}
 use Rattle.sheet.specs.declared.tokens.Token.TheVariants.{Number, Word, Mark}
@@ -7,10 +7,10 @@ use Rattle.faults.specs.declared.TokenFault.{TokenFault}
 use Rattle.sheet.specs.Tokens.{Tok, number, word, mark, token, size}
 use Rattle.policy.specs.declared.rules.Range.{Range}
 use Rattle.faults.specs.declared.FieldFault.{FieldFault}
-use Rattle.faults.specs.declared.FieldFault.TheVariants.{IllMade, Misfit, OutOfRange}
+use Rattle.faults.specs.declared.FieldFault.TheVariants.{OutOfRange}
 use Rattle.faults.specs.declared.Spot.{Spot}
 use Rattle.sheet.specs.declared.reader.Quad.{Quad}
-use Rattle.sheet.specs.Forms.{Want, Read, got, fault, walk, port_form, address_form, protocol_form}
+use Rattle.sheet.specs.Forms.{Read, got, fault, walk, port_form, address_form, protocol_form}
 
 abbrev pub span : ℕ → ℕ → Range
 span lo hi = record { low = lo; high = hi }

@@ -4,14 +4,13 @@ use Rattle.policy.specs.declared.rules.Range.{Range}
 use Rattle.policy.specs.declared.rules.Rule.{Rule}
 use Rattle.policy.specs.Letters.{Lacks}
 use Rattle.faults.specs.declared.Spot.{Spot}
-use Rattle.faults.specs.declared.TokenFault.{TokenFault}
 use Rattle.faults.specs.declared.FieldFault.{FieldFault}
 use Rattle.faults.specs.declared.FieldFault.TheVariants.{IllMade, Misfit, OutOfRange}
 use Rattle.faults.specs.declared.SheetFault.{SheetFault}
 use Rattle.faults.specs.declared.SheetFault.TheVariants.{TooLong, NoPlace, NoLineFeed, Field, NoWord}
-use Rattle.sheet.specs.Forms.{Want, Read, got, after, ended, walk, address_form, port_form, protocol_form}
+use Rattle.sheet.specs.Forms.{Want, got, after, ended, walk, address_form, port_form, protocol_form}
 use Rattle.sheet.specs.Lines.{spot}
-use Rattle.sheet.specs.Meaning.{Parts, joined, Line, Means, Address, Port, Protocol}
+use Rattle.sheet.specs.Meaning.{Line, Means, Address, Port}
 use Rattle.sheet.specs.Readings.{address_of, port_of, protocol_of}
 use Rattle.sheet.specs.Tokens.{Tok, token, size}
 

@@ -1,11 +1,8 @@
 -- What a whole sheet says.
-use Rattle.std.specs.Prelude.{◌≡◌, ℕ, zero, suc, ◌+◌, ◌-◌, ◌<◌, ◌≤◌, min, Bool, true, false, cond, not, List, [], ◌∷◌, ◌++◌, length, take, drop, Some, None, Ok, Err, Option, Result, ◌==◌, nat_le}
+use Rattle.std.specs.Prelude.{◌≡◌, ℕ, zero, suc, ◌+◌, min, Bool, cond, not, List, [], ◌∷◌, ◌++◌, length, take, drop, Some, None, Ok, Err, Option, Result, ◌==◌, nat_le}
 use Rattle.policy.specs.declared.rules.Range.{Range}
 use Rattle.faults.specs.declared.Spot.{Spot}
 use Rattle.policy.specs.declared.rules.Rule.{Rule}
-use Rattle.faults.specs.declared.TokenFault.{TokenFault}
-use Rattle.faults.specs.declared.FieldFault.{FieldFault}
-use Rattle.faults.specs.declared.FieldFault.TheVariants.{IllMade, Misfit, OutOfRange}
 use Rattle.faults.specs.declared.SheetFault.{SheetFault}
 use Rattle.faults.specs.declared.SheetFault.TheVariants.{TooLong, NoPlace, NoLineFeed, Field, NoWord}
 use Rattle.sheet.specs.Tokens.{run}

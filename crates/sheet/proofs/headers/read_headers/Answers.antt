@@ -1,4 +1,4 @@
-use Rattle.std.proofs.Common.{Ok, Err, arith}
+use Rattle.std.proofs.Common.{Err, arith}
 use Rattle.faults.specs.declared.SheetFault.TheVariants.{TooLong}
 use Rattle.sheet.specs.Headers.{header_at}
 use Rattle.sheet.specs.Meaning.{HeaderLine}

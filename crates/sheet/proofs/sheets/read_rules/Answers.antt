@@ -1,4 +1,4 @@
-use Rattle.std.proofs.Common.{Ok, Err, refl, arith}
+use Rattle.std.proofs.Common.{Err, arith}
 use Rattle.faults.specs.declared.SheetFault.TheVariants.{TooLong}
 use Rattle.sheet.specs.Meaning.{Line}
 use Rattle.sheet.specs.Sheets.{coded, line_at}

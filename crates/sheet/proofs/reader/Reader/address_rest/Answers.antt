@@ -1,7 +1,7 @@
-use Rattle.std.proofs.Common.{◌≡◌, ℕ, ◌≤◌, List, [], ◌∷◌, length, sym, refl, ap, ◌∙◌, subst, arith}
+use Rattle.std.proofs.Common.{ℕ, ◌≤◌, List, [], ◌∷◌, length, refl, ap, ◌∙◌, subst}
 use Rattle.std.proofs.lemmas.Result.{err_from_is_err_and}
-use Rattle.sheet.specs.declared.tokens.Mark.TheVariants.{Dot, Slash, Dash, Star, Comma, LineFeed}
-use Rattle.sheet.specs.Forms.{Read, digits, the, walk, noted}
+use Rattle.sheet.specs.declared.tokens.Mark.TheVariants.{Dot, Slash, Comma}
+use Rattle.sheet.specs.Forms.{digits, the, noted}
 use Rattle.sheet.proofs.Walks.{pair_got, pair_fault}
 use Rattle.sheet.proofs.reader.Reader.address_rest.Goals as goal
 

@@ -1,6 +1,5 @@
-use Rattle.std.proofs.Common.{◌≡◌, suc, ◌+◌, ◌<◌, ◌≤◌, eqb, length, get_or, drop, sym, ap, ◌∙◌, subst, add-one, arith}
+use Rattle.std.proofs.Common.{eqb, get_or, add-one, arith}
 use Rattle.std.proofs.lemmas.Bool.{not_from_false, not_from_true, ne_eqb, eq-eqb}
-use Rattle.sheet.specs.Tokens.{run}
 use Rattle.sheet.specs.Sheets.{not_feed}
 use Rattle.sheet.proofs.Runs.{run_more, run_stop, run_none}
 use Rattle.sheet.proofs.reader.Reader.feed.Goals as goal

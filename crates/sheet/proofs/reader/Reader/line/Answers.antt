@@ -1,8 +1,7 @@
-use Rattle.std.proofs.Common.{◌≡◌, ℕ, ◌+◌, ◌-◌, ◌≤◌, min, List, [], ◌∷◌, length, Some, None, Option, sym, refl, ap, ◌∙◌, subst, arith}
-use Rattle.faults.specs.declared.Spot.{Spot}
+use Rattle.std.proofs.Common.{◌≡◌, ℕ, ◌+◌, min, length, Some, None, sym, ap, ◌∙◌, arith}
 use Rattle.faults.specs.declared.SheetFault.TheVariants.{NoWord}
 use Rattle.sheet.specs.Lines.{spot}
-use Rattle.sheet.specs.Sheets.{good, bad, Lined}
+use Rattle.sheet.specs.Sheets.{good, bad}
 use Rattle.sheet.proofs.Decisions.{line_word}
 use Rattle.sheet.proofs.reader.Reader.line.Goals as goal
 use Rattle.sheet.proofs.reader.Reader.line.Goals.{then-end-sheet, else-end-sheet}

@@ -1,7 +1,6 @@
-use Rattle.std.proofs.Common.{◌≡◌, suc, ◌+◌, ◌-◌, ◌<◌, ◌≤◌, length, get_or, take, drop, sym, refl, ap, ◌∙◌, subst, arith, rules}
-use Rattle.sheet.specs.declared.tokens.Begins.TheVariants.{Number, Word, One, Nothing}
-use Rattle.sheet.specs.Tokens.{run, is_digit, is_letter}
-use Rattle.sheet.proofs.Taking.{token_past, token_at, part_is, length_run, run_some, digit_begins, digits_digits, number_some, number_ill, number_made, word_made}
+use Rattle.std.proofs.Common.{refl, arith}
+use Rattle.sheet.specs.declared.tokens.Begins.TheVariants.{One, Nothing}
+use Rattle.sheet.proofs.Taking.{token_past, token_at, number_some, number_ill, number_made, word_made}
 use Rattle.sheet.proofs.reader.Reader.next.Goals as goal
 
 pub returns-then-start-sheet : goal.returns-then-start-sheet

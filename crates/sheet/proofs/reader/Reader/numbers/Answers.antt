@@ -1,7 +1,7 @@
-use Rattle.std.proofs.Common.{◌≡◌, ℕ, ◌≤◌, List, [], ◌∷◌, length, sym, refl, ap, ◌∙◌, subst}
+use Rattle.std.proofs.Common.{ℕ, ◌≤◌, List, [], ◌∷◌, length, refl, ap, ◌∙◌, subst}
 use Rattle.std.proofs.lemmas.Result.{err_from_is_err_and}
 use Rattle.faults.specs.declared.Spot.{Spot}
-use Rattle.sheet.specs.Forms.{Read, got, fault}
+use Rattle.sheet.specs.Forms.{got, fault}
 use Rattle.sheet.specs.declared.tokens.Mark.TheVariants.{Comma, LineFeed}
 use Rattle.sheet.specs.Headers.{dotted_at, number_at}
 use Rattle.sheet.specs.Lines.{spot, and_then}
@@ -12,65 +12,65 @@ pub returns-in_err-destination : goal.returns-in_err-destination
 returns-in_err-destination c =
     let q = err_from_is_err_and c.from_residual-in_err-destination.result c.from_residual-in_err-destination.ensures.1 in
     record {
-      same = c.header-address-2.ensures.same ∙ c.header-address.ensures.same;
-      stays = ap (λ (p : Spot). p.line) c.header-address-2.ensures.stays ∙ ap (λ (p : Spot). p.line) c.header-address.ensures.stays;
-      within = subst (λ (l : List ℕ). c.header-address-2.new.self.at ≤ length l) c.header-address.ensures.same c.header-address-2.ensures.within;
+      same = c.header_address-2.ensures.same ∙ c.header_address.ensures.same;
+      stays = ap (λ (p : Spot). p.line) c.header_address-2.ensures.stays ∙ ap (λ (p : Spot). p.line) c.header_address.ensures.stays;
+      within = subst (λ (l : List ℕ). c.header_address-2.new.self.at ≤ length l) c.header_address.ensures.same c.header_address-2.ensures.within;
       tells = rw (q.1, q.2)
-          (field_is dotted_at 1 (λ xa xb. and_then (dotted_at c.args.self.now.sheet.now (spot c.args.self.now.spot.line 2) xb) (λ xc xd. and_then (number_at 65535 Comma c.args.self.now.sheet.now (spot c.args.self.now.spot.line 3) xd) (λ xe xf. and_then (number_at 65535 Comma c.args.self.now.sheet.now (spot c.args.self.now.spot.line 4) xf) (λ xg xh. and_then (number_at 255 LineFeed c.args.self.now.sheet.now (spot c.args.self.now.spot.line 5) xh) (λ xi xj. got (xa ∷ xc ∷ xe ∷ xg ∷ xi ∷ []) xj))))) c.args.self.now.sheet.now c.args.self.now.sheet.now c.args.self.now.spot.line c.args.self.now.spot.line c.args.self.now.at refl refl (got c.in_ok-source.source c.header-address.new.self.at) c.in_ok-source.ensures.tells
-          ∙ field_is dotted_at 2 (λ xc xd. and_then (number_at 65535 Comma c.args.self.now.sheet.now (spot c.args.self.now.spot.line 3) xd) (λ xe xf. and_then (number_at 65535 Comma c.args.self.now.sheet.now (spot c.args.self.now.spot.line 4) xf) (λ xg xh. and_then (number_at 255 LineFeed c.args.self.now.sheet.now (spot c.args.self.now.spot.line 5) xh) (λ xi xj. got (c.in_ok-source.source ∷ xc ∷ xe ∷ xg ∷ xi ∷ []) xj)))) c.args.self.now.sheet.now c.header-address.new.self.sheet.now c.args.self.now.spot.line c.header-address.new.self.spot.line c.header-address.new.self.at c.header-address.ensures.same (ap (λ (p : Spot). p.line) c.header-address.ensures.stays) (fault c.in_err-destination.field-0.0) c.in_err-destination.ensures.tells);
+          (field_is dotted_at 1 (λ xa xb. and_then (dotted_at c.args.self.now.sheet.now (spot c.args.self.now.spot.line 2) xb) (λ xc xd. and_then (number_at 65535 Comma c.args.self.now.sheet.now (spot c.args.self.now.spot.line 3) xd) (λ xe xf. and_then (number_at 65535 Comma c.args.self.now.sheet.now (spot c.args.self.now.spot.line 4) xf) (λ xg xh. and_then (number_at 255 LineFeed c.args.self.now.sheet.now (spot c.args.self.now.spot.line 5) xh) (λ xi xj. got (xa ∷ xc ∷ xe ∷ xg ∷ xi ∷ []) xj))))) c.args.self.now.sheet.now c.args.self.now.sheet.now c.args.self.now.spot.line c.args.self.now.spot.line c.args.self.now.at refl refl (got c.in_ok-source.source c.header_address.new.self.at) c.in_ok-source.ensures.tells
+          ∙ field_is dotted_at 2 (λ xc xd. and_then (number_at 65535 Comma c.args.self.now.sheet.now (spot c.args.self.now.spot.line 3) xd) (λ xe xf. and_then (number_at 65535 Comma c.args.self.now.sheet.now (spot c.args.self.now.spot.line 4) xf) (λ xg xh. and_then (number_at 255 LineFeed c.args.self.now.sheet.now (spot c.args.self.now.spot.line 5) xh) (λ xi xj. got (c.in_ok-source.source ∷ xc ∷ xe ∷ xg ∷ xi ∷ []) xj)))) c.args.self.now.sheet.now c.header_address.new.self.sheet.now c.args.self.now.spot.line c.header_address.new.self.spot.line c.header_address.new.self.at c.header_address.ensures.same (ap (λ (p : Spot). p.line) c.header_address.ensures.stays) (fault c.in_err-destination.field-0.0) c.in_err-destination.ensures.tells);
     }
 
 pub returns-in_err-source_port : goal.returns-in_err-source_port
 returns-in_err-source_port c =
     let q = err_from_is_err_and c.from_residual-in_err-source_port.result c.from_residual-in_err-source_port.ensures.1 in
     record {
-      same = c.header-number.ensures.same ∙ c.header-address-2.ensures.same ∙ c.header-address.ensures.same;
-      stays = ap (λ (p : Spot). p.line) c.header-number.ensures.stays ∙ ap (λ (p : Spot). p.line) c.header-address-2.ensures.stays ∙ ap (λ (p : Spot). p.line) c.header-address.ensures.stays;
-      within = subst (λ (l : List ℕ). c.header-number.new.self.at ≤ length l) (c.header-address-2.ensures.same ∙ c.header-address.ensures.same) c.header-number.ensures.within;
+      same = c.header_number.ensures.same ∙ c.header_address-2.ensures.same ∙ c.header_address.ensures.same;
+      stays = ap (λ (p : Spot). p.line) c.header_number.ensures.stays ∙ ap (λ (p : Spot). p.line) c.header_address-2.ensures.stays ∙ ap (λ (p : Spot). p.line) c.header_address.ensures.stays;
+      within = subst (λ (l : List ℕ). c.header_number.new.self.at ≤ length l) (c.header_address-2.ensures.same ∙ c.header_address.ensures.same) c.header_number.ensures.within;
       tells = rw (q.1, q.2)
-          (field_is dotted_at 1 (λ xa xb. and_then (dotted_at c.args.self.now.sheet.now (spot c.args.self.now.spot.line 2) xb) (λ xc xd. and_then (number_at 65535 Comma c.args.self.now.sheet.now (spot c.args.self.now.spot.line 3) xd) (λ xe xf. and_then (number_at 65535 Comma c.args.self.now.sheet.now (spot c.args.self.now.spot.line 4) xf) (λ xg xh. and_then (number_at 255 LineFeed c.args.self.now.sheet.now (spot c.args.self.now.spot.line 5) xh) (λ xi xj. got (xa ∷ xc ∷ xe ∷ xg ∷ xi ∷ []) xj))))) c.args.self.now.sheet.now c.args.self.now.sheet.now c.args.self.now.spot.line c.args.self.now.spot.line c.args.self.now.at refl refl (got c.in_ok-source.source c.header-address.new.self.at) c.in_ok-source.ensures.tells
-          ∙ field_is dotted_at 2 (λ xc xd. and_then (number_at 65535 Comma c.args.self.now.sheet.now (spot c.args.self.now.spot.line 3) xd) (λ xe xf. and_then (number_at 65535 Comma c.args.self.now.sheet.now (spot c.args.self.now.spot.line 4) xf) (λ xg xh. and_then (number_at 255 LineFeed c.args.self.now.sheet.now (spot c.args.self.now.spot.line 5) xh) (λ xi xj. got (c.in_ok-source.source ∷ xc ∷ xe ∷ xg ∷ xi ∷ []) xj)))) c.args.self.now.sheet.now c.header-address.new.self.sheet.now c.args.self.now.spot.line c.header-address.new.self.spot.line c.header-address.new.self.at c.header-address.ensures.same (ap (λ (p : Spot). p.line) c.header-address.ensures.stays) (got c.in_ok-destination.destination c.header-address-2.new.self.at) c.in_ok-destination.ensures.tells
-          ∙ field_is (number_at 65535 Comma) 3 (λ xe xf. and_then (number_at 65535 Comma c.args.self.now.sheet.now (spot c.args.self.now.spot.line 4) xf) (λ xg xh. and_then (number_at 255 LineFeed c.args.self.now.sheet.now (spot c.args.self.now.spot.line 5) xh) (λ xi xj. got (c.in_ok-source.source ∷ c.in_ok-destination.destination ∷ xe ∷ xg ∷ xi ∷ []) xj))) c.args.self.now.sheet.now c.header-address-2.new.self.sheet.now c.args.self.now.spot.line c.header-address-2.new.self.spot.line c.header-address-2.new.self.at (c.header-address-2.ensures.same ∙ c.header-address.ensures.same) (ap (λ (p : Spot). p.line) c.header-address-2.ensures.stays ∙ ap (λ (p : Spot). p.line) c.header-address.ensures.stays) (fault c.in_err-source_port.field-0.0) c.in_err-source_port.ensures.tells);
+          (field_is dotted_at 1 (λ xa xb. and_then (dotted_at c.args.self.now.sheet.now (spot c.args.self.now.spot.line 2) xb) (λ xc xd. and_then (number_at 65535 Comma c.args.self.now.sheet.now (spot c.args.self.now.spot.line 3) xd) (λ xe xf. and_then (number_at 65535 Comma c.args.self.now.sheet.now (spot c.args.self.now.spot.line 4) xf) (λ xg xh. and_then (number_at 255 LineFeed c.args.self.now.sheet.now (spot c.args.self.now.spot.line 5) xh) (λ xi xj. got (xa ∷ xc ∷ xe ∷ xg ∷ xi ∷ []) xj))))) c.args.self.now.sheet.now c.args.self.now.sheet.now c.args.self.now.spot.line c.args.self.now.spot.line c.args.self.now.at refl refl (got c.in_ok-source.source c.header_address.new.self.at) c.in_ok-source.ensures.tells
+          ∙ field_is dotted_at 2 (λ xc xd. and_then (number_at 65535 Comma c.args.self.now.sheet.now (spot c.args.self.now.spot.line 3) xd) (λ xe xf. and_then (number_at 65535 Comma c.args.self.now.sheet.now (spot c.args.self.now.spot.line 4) xf) (λ xg xh. and_then (number_at 255 LineFeed c.args.self.now.sheet.now (spot c.args.self.now.spot.line 5) xh) (λ xi xj. got (c.in_ok-source.source ∷ xc ∷ xe ∷ xg ∷ xi ∷ []) xj)))) c.args.self.now.sheet.now c.header_address.new.self.sheet.now c.args.self.now.spot.line c.header_address.new.self.spot.line c.header_address.new.self.at c.header_address.ensures.same (ap (λ (p : Spot). p.line) c.header_address.ensures.stays) (got c.in_ok-destination.destination c.header_address-2.new.self.at) c.in_ok-destination.ensures.tells
+          ∙ field_is (number_at 65535 Comma) 3 (λ xe xf. and_then (number_at 65535 Comma c.args.self.now.sheet.now (spot c.args.self.now.spot.line 4) xf) (λ xg xh. and_then (number_at 255 LineFeed c.args.self.now.sheet.now (spot c.args.self.now.spot.line 5) xh) (λ xi xj. got (c.in_ok-source.source ∷ c.in_ok-destination.destination ∷ xe ∷ xg ∷ xi ∷ []) xj))) c.args.self.now.sheet.now c.header_address-2.new.self.sheet.now c.args.self.now.spot.line c.header_address-2.new.self.spot.line c.header_address-2.new.self.at (c.header_address-2.ensures.same ∙ c.header_address.ensures.same) (ap (λ (p : Spot). p.line) c.header_address-2.ensures.stays ∙ ap (λ (p : Spot). p.line) c.header_address.ensures.stays) (fault c.in_err-source_port.field-0.0) c.in_err-source_port.ensures.tells);
     }
 
 pub returns-in_err-destination_port : goal.returns-in_err-destination_port
 returns-in_err-destination_port c =
     let q = err_from_is_err_and c.from_residual-in_err-destination_port.result c.from_residual-in_err-destination_port.ensures.1 in
     record {
-      same = c.header-number-2.ensures.same ∙ c.header-number.ensures.same ∙ c.header-address-2.ensures.same ∙ c.header-address.ensures.same;
-      stays = ap (λ (p : Spot). p.line) c.header-number-2.ensures.stays ∙ ap (λ (p : Spot). p.line) c.header-number.ensures.stays ∙ ap (λ (p : Spot). p.line) c.header-address-2.ensures.stays ∙ ap (λ (p : Spot). p.line) c.header-address.ensures.stays;
-      within = subst (λ (l : List ℕ). c.header-number-2.new.self.at ≤ length l) (c.header-number.ensures.same ∙ c.header-address-2.ensures.same ∙ c.header-address.ensures.same) c.header-number-2.ensures.within;
+      same = c.header_number-2.ensures.same ∙ c.header_number.ensures.same ∙ c.header_address-2.ensures.same ∙ c.header_address.ensures.same;
+      stays = ap (λ (p : Spot). p.line) c.header_number-2.ensures.stays ∙ ap (λ (p : Spot). p.line) c.header_number.ensures.stays ∙ ap (λ (p : Spot). p.line) c.header_address-2.ensures.stays ∙ ap (λ (p : Spot). p.line) c.header_address.ensures.stays;
+      within = subst (λ (l : List ℕ). c.header_number-2.new.self.at ≤ length l) (c.header_number.ensures.same ∙ c.header_address-2.ensures.same ∙ c.header_address.ensures.same) c.header_number-2.ensures.within;
       tells = rw (q.1, q.2)
-          (field_is dotted_at 1 (λ xa xb. and_then (dotted_at c.args.self.now.sheet.now (spot c.args.self.now.spot.line 2) xb) (λ xc xd. and_then (number_at 65535 Comma c.args.self.now.sheet.now (spot c.args.self.now.spot.line 3) xd) (λ xe xf. and_then (number_at 65535 Comma c.args.self.now.sheet.now (spot c.args.self.now.spot.line 4) xf) (λ xg xh. and_then (number_at 255 LineFeed c.args.self.now.sheet.now (spot c.args.self.now.spot.line 5) xh) (λ xi xj. got (xa ∷ xc ∷ xe ∷ xg ∷ xi ∷ []) xj))))) c.args.self.now.sheet.now c.args.self.now.sheet.now c.args.self.now.spot.line c.args.self.now.spot.line c.args.self.now.at refl refl (got c.in_ok-source.source c.header-address.new.self.at) c.in_ok-source.ensures.tells
-          ∙ field_is dotted_at 2 (λ xc xd. and_then (number_at 65535 Comma c.args.self.now.sheet.now (spot c.args.self.now.spot.line 3) xd) (λ xe xf. and_then (number_at 65535 Comma c.args.self.now.sheet.now (spot c.args.self.now.spot.line 4) xf) (λ xg xh. and_then (number_at 255 LineFeed c.args.self.now.sheet.now (spot c.args.self.now.spot.line 5) xh) (λ xi xj. got (c.in_ok-source.source ∷ xc ∷ xe ∷ xg ∷ xi ∷ []) xj)))) c.args.self.now.sheet.now c.header-address.new.self.sheet.now c.args.self.now.spot.line c.header-address.new.self.spot.line c.header-address.new.self.at c.header-address.ensures.same (ap (λ (p : Spot). p.line) c.header-address.ensures.stays) (got c.in_ok-destination.destination c.header-address-2.new.self.at) c.in_ok-destination.ensures.tells
-          ∙ field_is (number_at 65535 Comma) 3 (λ xe xf. and_then (number_at 65535 Comma c.args.self.now.sheet.now (spot c.args.self.now.spot.line 4) xf) (λ xg xh. and_then (number_at 255 LineFeed c.args.self.now.sheet.now (spot c.args.self.now.spot.line 5) xh) (λ xi xj. got (c.in_ok-source.source ∷ c.in_ok-destination.destination ∷ xe ∷ xg ∷ xi ∷ []) xj))) c.args.self.now.sheet.now c.header-address-2.new.self.sheet.now c.args.self.now.spot.line c.header-address-2.new.self.spot.line c.header-address-2.new.self.at (c.header-address-2.ensures.same ∙ c.header-address.ensures.same) (ap (λ (p : Spot). p.line) c.header-address-2.ensures.stays ∙ ap (λ (p : Spot). p.line) c.header-address.ensures.stays) (got c.in_ok-source_port.source_port c.header-number.new.self.at) c.in_ok-source_port.ensures.tells
-          ∙ field_is (number_at 65535 Comma) 4 (λ xg xh. and_then (number_at 255 LineFeed c.args.self.now.sheet.now (spot c.args.self.now.spot.line 5) xh) (λ xi xj. got (c.in_ok-source.source ∷ c.in_ok-destination.destination ∷ c.in_ok-source_port.source_port ∷ xg ∷ xi ∷ []) xj)) c.args.self.now.sheet.now c.header-number.new.self.sheet.now c.args.self.now.spot.line c.header-number.new.self.spot.line c.header-number.new.self.at (c.header-number.ensures.same ∙ c.header-address-2.ensures.same ∙ c.header-address.ensures.same) (ap (λ (p : Spot). p.line) c.header-number.ensures.stays ∙ ap (λ (p : Spot). p.line) c.header-address-2.ensures.stays ∙ ap (λ (p : Spot). p.line) c.header-address.ensures.stays) (fault c.in_err-destination_port.field-0.0) c.in_err-destination_port.ensures.tells);
+          (field_is dotted_at 1 (λ xa xb. and_then (dotted_at c.args.self.now.sheet.now (spot c.args.self.now.spot.line 2) xb) (λ xc xd. and_then (number_at 65535 Comma c.args.self.now.sheet.now (spot c.args.self.now.spot.line 3) xd) (λ xe xf. and_then (number_at 65535 Comma c.args.self.now.sheet.now (spot c.args.self.now.spot.line 4) xf) (λ xg xh. and_then (number_at 255 LineFeed c.args.self.now.sheet.now (spot c.args.self.now.spot.line 5) xh) (λ xi xj. got (xa ∷ xc ∷ xe ∷ xg ∷ xi ∷ []) xj))))) c.args.self.now.sheet.now c.args.self.now.sheet.now c.args.self.now.spot.line c.args.self.now.spot.line c.args.self.now.at refl refl (got c.in_ok-source.source c.header_address.new.self.at) c.in_ok-source.ensures.tells
+          ∙ field_is dotted_at 2 (λ xc xd. and_then (number_at 65535 Comma c.args.self.now.sheet.now (spot c.args.self.now.spot.line 3) xd) (λ xe xf. and_then (number_at 65535 Comma c.args.self.now.sheet.now (spot c.args.self.now.spot.line 4) xf) (λ xg xh. and_then (number_at 255 LineFeed c.args.self.now.sheet.now (spot c.args.self.now.spot.line 5) xh) (λ xi xj. got (c.in_ok-source.source ∷ xc ∷ xe ∷ xg ∷ xi ∷ []) xj)))) c.args.self.now.sheet.now c.header_address.new.self.sheet.now c.args.self.now.spot.line c.header_address.new.self.spot.line c.header_address.new.self.at c.header_address.ensures.same (ap (λ (p : Spot). p.line) c.header_address.ensures.stays) (got c.in_ok-destination.destination c.header_address-2.new.self.at) c.in_ok-destination.ensures.tells
+          ∙ field_is (number_at 65535 Comma) 3 (λ xe xf. and_then (number_at 65535 Comma c.args.self.now.sheet.now (spot c.args.self.now.spot.line 4) xf) (λ xg xh. and_then (number_at 255 LineFeed c.args.self.now.sheet.now (spot c.args.self.now.spot.line 5) xh) (λ xi xj. got (c.in_ok-source.source ∷ c.in_ok-destination.destination ∷ xe ∷ xg ∷ xi ∷ []) xj))) c.args.self.now.sheet.now c.header_address-2.new.self.sheet.now c.args.self.now.spot.line c.header_address-2.new.self.spot.line c.header_address-2.new.self.at (c.header_address-2.ensures.same ∙ c.header_address.ensures.same) (ap (λ (p : Spot). p.line) c.header_address-2.ensures.stays ∙ ap (λ (p : Spot). p.line) c.header_address.ensures.stays) (got c.in_ok-source_port.source_port c.header_number.new.self.at) c.in_ok-source_port.ensures.tells
+          ∙ field_is (number_at 65535 Comma) 4 (λ xg xh. and_then (number_at 255 LineFeed c.args.self.now.sheet.now (spot c.args.self.now.spot.line 5) xh) (λ xi xj. got (c.in_ok-source.source ∷ c.in_ok-destination.destination ∷ c.in_ok-source_port.source_port ∷ xg ∷ xi ∷ []) xj)) c.args.self.now.sheet.now c.header_number.new.self.sheet.now c.args.self.now.spot.line c.header_number.new.self.spot.line c.header_number.new.self.at (c.header_number.ensures.same ∙ c.header_address-2.ensures.same ∙ c.header_address.ensures.same) (ap (λ (p : Spot). p.line) c.header_number.ensures.stays ∙ ap (λ (p : Spot). p.line) c.header_address-2.ensures.stays ∙ ap (λ (p : Spot). p.line) c.header_address.ensures.stays) (fault c.in_err-destination_port.field-0.0) c.in_err-destination_port.ensures.tells);
     }
 
 pub returns-in_err-protocol : goal.returns-in_err-protocol
 returns-in_err-protocol c =
     let q = err_from_is_err_and c.from_residual-in_err-protocol.result c.from_residual-in_err-protocol.ensures.1 in
     record {
-      same = c.header-number-3.ensures.same ∙ c.header-number-2.ensures.same ∙ c.header-number.ensures.same ∙ c.header-address-2.ensures.same ∙ c.header-address.ensures.same;
-      stays = ap (λ (p : Spot). p.line) c.header-number-3.ensures.stays ∙ ap (λ (p : Spot). p.line) c.header-number-2.ensures.stays ∙ ap (λ (p : Spot). p.line) c.header-number.ensures.stays ∙ ap (λ (p : Spot). p.line) c.header-address-2.ensures.stays ∙ ap (λ (p : Spot). p.line) c.header-address.ensures.stays;
-      within = subst (λ (l : List ℕ). c.header-number-3.new.self.at ≤ length l) (c.header-number-2.ensures.same ∙ c.header-number.ensures.same ∙ c.header-address-2.ensures.same ∙ c.header-address.ensures.same) c.header-number-3.ensures.within;
+      same = c.header_number-3.ensures.same ∙ c.header_number-2.ensures.same ∙ c.header_number.ensures.same ∙ c.header_address-2.ensures.same ∙ c.header_address.ensures.same;
+      stays = ap (λ (p : Spot). p.line) c.header_number-3.ensures.stays ∙ ap (λ (p : Spot). p.line) c.header_number-2.ensures.stays ∙ ap (λ (p : Spot). p.line) c.header_number.ensures.stays ∙ ap (λ (p : Spot). p.line) c.header_address-2.ensures.stays ∙ ap (λ (p : Spot). p.line) c.header_address.ensures.stays;
+      within = subst (λ (l : List ℕ). c.header_number-3.new.self.at ≤ length l) (c.header_number-2.ensures.same ∙ c.header_number.ensures.same ∙ c.header_address-2.ensures.same ∙ c.header_address.ensures.same) c.header_number-3.ensures.within;
       tells = rw (q.1, q.2)
-          (field_is dotted_at 1 (λ xa xb. and_then (dotted_at c.args.self.now.sheet.now (spot c.args.self.now.spot.line 2) xb) (λ xc xd. and_then (number_at 65535 Comma c.args.self.now.sheet.now (spot c.args.self.now.spot.line 3) xd) (λ xe xf. and_then (number_at 65535 Comma c.args.self.now.sheet.now (spot c.args.self.now.spot.line 4) xf) (λ xg xh. and_then (number_at 255 LineFeed c.args.self.now.sheet.now (spot c.args.self.now.spot.line 5) xh) (λ xi xj. got (xa ∷ xc ∷ xe ∷ xg ∷ xi ∷ []) xj))))) c.args.self.now.sheet.now c.args.self.now.sheet.now c.args.self.now.spot.line c.args.self.now.spot.line c.args.self.now.at refl refl (got c.in_ok-source.source c.header-address.new.self.at) c.in_ok-source.ensures.tells
-          ∙ field_is dotted_at 2 (λ xc xd. and_then (number_at 65535 Comma c.args.self.now.sheet.now (spot c.args.self.now.spot.line 3) xd) (λ xe xf. and_then (number_at 65535 Comma c.args.self.now.sheet.now (spot c.args.self.now.spot.line 4) xf) (λ xg xh. and_then (number_at 255 LineFeed c.args.self.now.sheet.now (spot c.args.self.now.spot.line 5) xh) (λ xi xj. got (c.in_ok-source.source ∷ xc ∷ xe ∷ xg ∷ xi ∷ []) xj)))) c.args.self.now.sheet.now c.header-address.new.self.sheet.now c.args.self.now.spot.line c.header-address.new.self.spot.line c.header-address.new.self.at c.header-address.ensures.same (ap (λ (p : Spot). p.line) c.header-address.ensures.stays) (got c.in_ok-destination.destination c.header-address-2.new.self.at) c.in_ok-destination.ensures.tells
-          ∙ field_is (number_at 65535 Comma) 3 (λ xe xf. and_then (number_at 65535 Comma c.args.self.now.sheet.now (spot c.args.self.now.spot.line 4) xf) (λ xg xh. and_then (number_at 255 LineFeed c.args.self.now.sheet.now (spot c.args.self.now.spot.line 5) xh) (λ xi xj. got (c.in_ok-source.source ∷ c.in_ok-destination.destination ∷ xe ∷ xg ∷ xi ∷ []) xj))) c.args.self.now.sheet.now c.header-address-2.new.self.sheet.now c.args.self.now.spot.line c.header-address-2.new.self.spot.line c.header-address-2.new.self.at (c.header-address-2.ensures.same ∙ c.header-address.ensures.same) (ap (λ (p : Spot). p.line) c.header-address-2.ensures.stays ∙ ap (λ (p : Spot). p.line) c.header-address.ensures.stays) (got c.in_ok-source_port.source_port c.header-number.new.self.at) c.in_ok-source_port.ensures.tells
-          ∙ field_is (number_at 65535 Comma) 4 (λ xg xh. and_then (number_at 255 LineFeed c.args.self.now.sheet.now (spot c.args.self.now.spot.line 5) xh) (λ xi xj. got (c.in_ok-source.source ∷ c.in_ok-destination.destination ∷ c.in_ok-source_port.source_port ∷ xg ∷ xi ∷ []) xj)) c.args.self.now.sheet.now c.header-number.new.self.sheet.now c.args.self.now.spot.line c.header-number.new.self.spot.line c.header-number.new.self.at (c.header-number.ensures.same ∙ c.header-address-2.ensures.same ∙ c.header-address.ensures.same) (ap (λ (p : Spot). p.line) c.header-number.ensures.stays ∙ ap (λ (p : Spot). p.line) c.header-address-2.ensures.stays ∙ ap (λ (p : Spot). p.line) c.header-address.ensures.stays) (got c.in_ok-destination_port.destination_port c.header-number-2.new.self.at) c.in_ok-destination_port.ensures.tells
-          ∙ field_is (number_at 255 LineFeed) 5 (λ xi xj. got (c.in_ok-source.source ∷ c.in_ok-destination.destination ∷ c.in_ok-source_port.source_port ∷ c.in_ok-destination_port.destination_port ∷ xi ∷ []) xj) c.args.self.now.sheet.now c.header-number-2.new.self.sheet.now c.args.self.now.spot.line c.header-number-2.new.self.spot.line c.header-number-2.new.self.at (c.header-number-2.ensures.same ∙ c.header-number.ensures.same ∙ c.header-address-2.ensures.same ∙ c.header-address.ensures.same) (ap (λ (p : Spot). p.line) c.header-number-2.ensures.stays ∙ ap (λ (p : Spot). p.line) c.header-number.ensures.stays ∙ ap (λ (p : Spot). p.line) c.header-address-2.ensures.stays ∙ ap (λ (p : Spot). p.line) c.header-address.ensures.stays) (fault c.in_err-protocol.field-0.0) c.in_err-protocol.ensures.tells);
+          (field_is dotted_at 1 (λ xa xb. and_then (dotted_at c.args.self.now.sheet.now (spot c.args.self.now.spot.line 2) xb) (λ xc xd. and_then (number_at 65535 Comma c.args.self.now.sheet.now (spot c.args.self.now.spot.line 3) xd) (λ xe xf. and_then (number_at 65535 Comma c.args.self.now.sheet.now (spot c.args.self.now.spot.line 4) xf) (λ xg xh. and_then (number_at 255 LineFeed c.args.self.now.sheet.now (spot c.args.self.now.spot.line 5) xh) (λ xi xj. got (xa ∷ xc ∷ xe ∷ xg ∷ xi ∷ []) xj))))) c.args.self.now.sheet.now c.args.self.now.sheet.now c.args.self.now.spot.line c.args.self.now.spot.line c.args.self.now.at refl refl (got c.in_ok-source.source c.header_address.new.self.at) c.in_ok-source.ensures.tells
+          ∙ field_is dotted_at 2 (λ xc xd. and_then (number_at 65535 Comma c.args.self.now.sheet.now (spot c.args.self.now.spot.line 3) xd) (λ xe xf. and_then (number_at 65535 Comma c.args.self.now.sheet.now (spot c.args.self.now.spot.line 4) xf) (λ xg xh. and_then (number_at 255 LineFeed c.args.self.now.sheet.now (spot c.args.self.now.spot.line 5) xh) (λ xi xj. got (c.in_ok-source.source ∷ xc ∷ xe ∷ xg ∷ xi ∷ []) xj)))) c.args.self.now.sheet.now c.header_address.new.self.sheet.now c.args.self.now.spot.line c.header_address.new.self.spot.line c.header_address.new.self.at c.header_address.ensures.same (ap (λ (p : Spot). p.line) c.header_address.ensures.stays) (got c.in_ok-destination.destination c.header_address-2.new.self.at) c.in_ok-destination.ensures.tells
+          ∙ field_is (number_at 65535 Comma) 3 (λ xe xf. and_then (number_at 65535 Comma c.args.self.now.sheet.now (spot c.args.self.now.spot.line 4) xf) (λ xg xh. and_then (number_at 255 LineFeed c.args.self.now.sheet.now (spot c.args.self.now.spot.line 5) xh) (λ xi xj. got (c.in_ok-source.source ∷ c.in_ok-destination.destination ∷ xe ∷ xg ∷ xi ∷ []) xj))) c.args.self.now.sheet.now c.header_address-2.new.self.sheet.now c.args.self.now.spot.line c.header_address-2.new.self.spot.line c.header_address-2.new.self.at (c.header_address-2.ensures.same ∙ c.header_address.ensures.same) (ap (λ (p : Spot). p.line) c.header_address-2.ensures.stays ∙ ap (λ (p : Spot). p.line) c.header_address.ensures.stays) (got c.in_ok-source_port.source_port c.header_number.new.self.at) c.in_ok-source_port.ensures.tells
+          ∙ field_is (number_at 65535 Comma) 4 (λ xg xh. and_then (number_at 255 LineFeed c.args.self.now.sheet.now (spot c.args.self.now.spot.line 5) xh) (λ xi xj. got (c.in_ok-source.source ∷ c.in_ok-destination.destination ∷ c.in_ok-source_port.source_port ∷ xg ∷ xi ∷ []) xj)) c.args.self.now.sheet.now c.header_number.new.self.sheet.now c.args.self.now.spot.line c.header_number.new.self.spot.line c.header_number.new.self.at (c.header_number.ensures.same ∙ c.header_address-2.ensures.same ∙ c.header_address.ensures.same) (ap (λ (p : Spot). p.line) c.header_number.ensures.stays ∙ ap (λ (p : Spot). p.line) c.header_address-2.ensures.stays ∙ ap (λ (p : Spot). p.line) c.header_address.ensures.stays) (got c.in_ok-destination_port.destination_port c.header_number-2.new.self.at) c.in_ok-destination_port.ensures.tells
+          ∙ field_is (number_at 255 LineFeed) 5 (λ xi xj. got (c.in_ok-source.source ∷ c.in_ok-destination.destination ∷ c.in_ok-source_port.source_port ∷ c.in_ok-destination_port.destination_port ∷ xi ∷ []) xj) c.args.self.now.sheet.now c.header_number-2.new.self.sheet.now c.args.self.now.spot.line c.header_number-2.new.self.spot.line c.header_number-2.new.self.at (c.header_number-2.ensures.same ∙ c.header_number.ensures.same ∙ c.header_address-2.ensures.same ∙ c.header_address.ensures.same) (ap (λ (p : Spot). p.line) c.header_number-2.ensures.stays ∙ ap (λ (p : Spot). p.line) c.header_number.ensures.stays ∙ ap (λ (p : Spot). p.line) c.header_address-2.ensures.stays ∙ ap (λ (p : Spot). p.line) c.header_address.ensures.stays) (fault c.in_err-protocol.field-0.0) c.in_err-protocol.ensures.tells);
     }
 
 pub returns : goal.returns
 returns c =
     record {
-      same = c.header-number-3.ensures.same ∙ c.header-number-2.ensures.same ∙ c.header-number.ensures.same ∙ c.header-address-2.ensures.same ∙ c.header-address.ensures.same;
-      stays = ap (λ (p : Spot). p.line) c.header-number-3.ensures.stays ∙ ap (λ (p : Spot). p.line) c.header-number-2.ensures.stays ∙ ap (λ (p : Spot). p.line) c.header-number.ensures.stays ∙ ap (λ (p : Spot). p.line) c.header-address-2.ensures.stays ∙ ap (λ (p : Spot). p.line) c.header-address.ensures.stays;
-      within = subst (λ (l : List ℕ). c.header-number-3.new.self.at ≤ length l) (c.header-number-2.ensures.same ∙ c.header-number.ensures.same ∙ c.header-address-2.ensures.same ∙ c.header-address.ensures.same) c.header-number-3.ensures.within;
-      tells = field_is dotted_at 1 (λ xa xb. and_then (dotted_at c.args.self.now.sheet.now (spot c.args.self.now.spot.line 2) xb) (λ xc xd. and_then (number_at 65535 Comma c.args.self.now.sheet.now (spot c.args.self.now.spot.line 3) xd) (λ xe xf. and_then (number_at 65535 Comma c.args.self.now.sheet.now (spot c.args.self.now.spot.line 4) xf) (λ xg xh. and_then (number_at 255 LineFeed c.args.self.now.sheet.now (spot c.args.self.now.spot.line 5) xh) (λ xi xj. got (xa ∷ xc ∷ xe ∷ xg ∷ xi ∷ []) xj))))) c.args.self.now.sheet.now c.args.self.now.sheet.now c.args.self.now.spot.line c.args.self.now.spot.line c.args.self.now.at refl refl (got c.in_ok-source.source c.header-address.new.self.at) c.in_ok-source.ensures.tells
-          ∙ field_is dotted_at 2 (λ xc xd. and_then (number_at 65535 Comma c.args.self.now.sheet.now (spot c.args.self.now.spot.line 3) xd) (λ xe xf. and_then (number_at 65535 Comma c.args.self.now.sheet.now (spot c.args.self.now.spot.line 4) xf) (λ xg xh. and_then (number_at 255 LineFeed c.args.self.now.sheet.now (spot c.args.self.now.spot.line 5) xh) (λ xi xj. got (c.in_ok-source.source ∷ xc ∷ xe ∷ xg ∷ xi ∷ []) xj)))) c.args.self.now.sheet.now c.header-address.new.self.sheet.now c.args.self.now.spot.line c.header-address.new.self.spot.line c.header-address.new.self.at c.header-address.ensures.same (ap (λ (p : Spot). p.line) c.header-address.ensures.stays) (got c.in_ok-destination.destination c.header-address-2.new.self.at) c.in_ok-destination.ensures.tells
-          ∙ field_is (number_at 65535 Comma) 3 (λ xe xf. and_then (number_at 65535 Comma c.args.self.now.sheet.now (spot c.args.self.now.spot.line 4) xf) (λ xg xh. and_then (number_at 255 LineFeed c.args.self.now.sheet.now (spot c.args.self.now.spot.line 5) xh) (λ xi xj. got (c.in_ok-source.source ∷ c.in_ok-destination.destination ∷ xe ∷ xg ∷ xi ∷ []) xj))) c.args.self.now.sheet.now c.header-address-2.new.self.sheet.now c.args.self.now.spot.line c.header-address-2.new.self.spot.line c.header-address-2.new.self.at (c.header-address-2.ensures.same ∙ c.header-address.ensures.same) (ap (λ (p : Spot). p.line) c.header-address-2.ensures.stays ∙ ap (λ (p : Spot). p.line) c.header-address.ensures.stays) (got c.in_ok-source_port.source_port c.header-number.new.self.at) c.in_ok-source_port.ensures.tells
-          ∙ field_is (number_at 65535 Comma) 4 (λ xg xh. and_then (number_at 255 LineFeed c.args.self.now.sheet.now (spot c.args.self.now.spot.line 5) xh) (λ xi xj. got (c.in_ok-source.source ∷ c.in_ok-destination.destination ∷ c.in_ok-source_port.source_port ∷ xg ∷ xi ∷ []) xj)) c.args.self.now.sheet.now c.header-number.new.self.sheet.now c.args.self.now.spot.line c.header-number.new.self.spot.line c.header-number.new.self.at (c.header-number.ensures.same ∙ c.header-address-2.ensures.same ∙ c.header-address.ensures.same) (ap (λ (p : Spot). p.line) c.header-number.ensures.stays ∙ ap (λ (p : Spot). p.line) c.header-address-2.ensures.stays ∙ ap (λ (p : Spot). p.line) c.header-address.ensures.stays) (got c.in_ok-destination_port.destination_port c.header-number-2.new.self.at) c.in_ok-destination_port.ensures.tells
-          ∙ field_is (number_at 255 LineFeed) 5 (λ xi xj. got (c.in_ok-source.source ∷ c.in_ok-destination.destination ∷ c.in_ok-source_port.source_port ∷ c.in_ok-destination_port.destination_port ∷ xi ∷ []) xj) c.args.self.now.sheet.now c.header-number-2.new.self.sheet.now c.args.self.now.spot.line c.header-number-2.new.self.spot.line c.header-number-2.new.self.at (c.header-number-2.ensures.same ∙ c.header-number.ensures.same ∙ c.header-address-2.ensures.same ∙ c.header-address.ensures.same) (ap (λ (p : Spot). p.line) c.header-number-2.ensures.stays ∙ ap (λ (p : Spot). p.line) c.header-number.ensures.stays ∙ ap (λ (p : Spot). p.line) c.header-address-2.ensures.stays ∙ ap (λ (p : Spot). p.line) c.header-address.ensures.stays) (got c.in_ok-protocol.protocol c.header-number-3.new.self.at) c.in_ok-protocol.ensures.tells;
+      same = c.header_number-3.ensures.same ∙ c.header_number-2.ensures.same ∙ c.header_number.ensures.same ∙ c.header_address-2.ensures.same ∙ c.header_address.ensures.same;
+      stays = ap (λ (p : Spot). p.line) c.header_number-3.ensures.stays ∙ ap (λ (p : Spot). p.line) c.header_number-2.ensures.stays ∙ ap (λ (p : Spot). p.line) c.header_number.ensures.stays ∙ ap (λ (p : Spot). p.line) c.header_address-2.ensures.stays ∙ ap (λ (p : Spot). p.line) c.header_address.ensures.stays;
+      within = subst (λ (l : List ℕ). c.header_number-3.new.self.at ≤ length l) (c.header_number-2.ensures.same ∙ c.header_number.ensures.same ∙ c.header_address-2.ensures.same ∙ c.header_address.ensures.same) c.header_number-3.ensures.within;
+      tells = field_is dotted_at 1 (λ xa xb. and_then (dotted_at c.args.self.now.sheet.now (spot c.args.self.now.spot.line 2) xb) (λ xc xd. and_then (number_at 65535 Comma c.args.self.now.sheet.now (spot c.args.self.now.spot.line 3) xd) (λ xe xf. and_then (number_at 65535 Comma c.args.self.now.sheet.now (spot c.args.self.now.spot.line 4) xf) (λ xg xh. and_then (number_at 255 LineFeed c.args.self.now.sheet.now (spot c.args.self.now.spot.line 5) xh) (λ xi xj. got (xa ∷ xc ∷ xe ∷ xg ∷ xi ∷ []) xj))))) c.args.self.now.sheet.now c.args.self.now.sheet.now c.args.self.now.spot.line c.args.self.now.spot.line c.args.self.now.at refl refl (got c.in_ok-source.source c.header_address.new.self.at) c.in_ok-source.ensures.tells
+          ∙ field_is dotted_at 2 (λ xc xd. and_then (number_at 65535 Comma c.args.self.now.sheet.now (spot c.args.self.now.spot.line 3) xd) (λ xe xf. and_then (number_at 65535 Comma c.args.self.now.sheet.now (spot c.args.self.now.spot.line 4) xf) (λ xg xh. and_then (number_at 255 LineFeed c.args.self.now.sheet.now (spot c.args.self.now.spot.line 5) xh) (λ xi xj. got (c.in_ok-source.source ∷ xc ∷ xe ∷ xg ∷ xi ∷ []) xj)))) c.args.self.now.sheet.now c.header_address.new.self.sheet.now c.args.self.now.spot.line c.header_address.new.self.spot.line c.header_address.new.self.at c.header_address.ensures.same (ap (λ (p : Spot). p.line) c.header_address.ensures.stays) (got c.in_ok-destination.destination c.header_address-2.new.self.at) c.in_ok-destination.ensures.tells
+          ∙ field_is (number_at 65535 Comma) 3 (λ xe xf. and_then (number_at 65535 Comma c.args.self.now.sheet.now (spot c.args.self.now.spot.line 4) xf) (λ xg xh. and_then (number_at 255 LineFeed c.args.self.now.sheet.now (spot c.args.self.now.spot.line 5) xh) (λ xi xj. got (c.in_ok-source.source ∷ c.in_ok-destination.destination ∷ xe ∷ xg ∷ xi ∷ []) xj))) c.args.self.now.sheet.now c.header_address-2.new.self.sheet.now c.args.self.now.spot.line c.header_address-2.new.self.spot.line c.header_address-2.new.self.at (c.header_address-2.ensures.same ∙ c.header_address.ensures.same) (ap (λ (p : Spot). p.line) c.header_address-2.ensures.stays ∙ ap (λ (p : Spot). p.line) c.header_address.ensures.stays) (got c.in_ok-source_port.source_port c.header_number.new.self.at) c.in_ok-source_port.ensures.tells
+          ∙ field_is (number_at 65535 Comma) 4 (λ xg xh. and_then (number_at 255 LineFeed c.args.self.now.sheet.now (spot c.args.self.now.spot.line 5) xh) (λ xi xj. got (c.in_ok-source.source ∷ c.in_ok-destination.destination ∷ c.in_ok-source_port.source_port ∷ xg ∷ xi ∷ []) xj)) c.args.self.now.sheet.now c.header_number.new.self.sheet.now c.args.self.now.spot.line c.header_number.new.self.spot.line c.header_number.new.self.at (c.header_number.ensures.same ∙ c.header_address-2.ensures.same ∙ c.header_address.ensures.same) (ap (λ (p : Spot). p.line) c.header_number.ensures.stays ∙ ap (λ (p : Spot). p.line) c.header_address-2.ensures.stays ∙ ap (λ (p : Spot). p.line) c.header_address.ensures.stays) (got c.in_ok-destination_port.destination_port c.header_number-2.new.self.at) c.in_ok-destination_port.ensures.tells
+          ∙ field_is (number_at 255 LineFeed) 5 (λ xi xj. got (c.in_ok-source.source ∷ c.in_ok-destination.destination ∷ c.in_ok-source_port.source_port ∷ c.in_ok-destination_port.destination_port ∷ xi ∷ []) xj) c.args.self.now.sheet.now c.header_number-2.new.self.sheet.now c.args.self.now.spot.line c.header_number-2.new.self.spot.line c.header_number-2.new.self.at (c.header_number-2.ensures.same ∙ c.header_number.ensures.same ∙ c.header_address-2.ensures.same ∙ c.header_address.ensures.same) (ap (λ (p : Spot). p.line) c.header_number-2.ensures.stays ∙ ap (λ (p : Spot). p.line) c.header_number.ensures.stays ∙ ap (λ (p : Spot). p.line) c.header_address-2.ensures.stays ∙ ap (λ (p : Spot). p.line) c.header_address.ensures.stays) (got c.in_ok-protocol.protocol c.header_number-3.new.self.at) c.in_ok-protocol.ensures.tells;
     }

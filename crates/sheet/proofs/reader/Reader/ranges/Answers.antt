@@ -1,7 +1,7 @@
-use Rattle.std.proofs.Common.{◌≡◌, ℕ, ◌≤◌, List, [], ◌∷◌, length, sym, refl, ap, ◌∙◌, subst}
+use Rattle.std.proofs.Common.{ℕ, ◌≤◌, List, [], ◌∷◌, length, refl, ap, ◌∙◌, subst}
 use Rattle.std.proofs.lemmas.Result.{err_from_is_err_and}
 use Rattle.faults.specs.declared.Spot.{Spot}
-use Rattle.sheet.specs.Forms.{Read, got, fault}
+use Rattle.sheet.specs.Forms.{got, fault}
 use Rattle.sheet.specs.Readings.{address_at, port_at, protocol_at}
 use Rattle.sheet.specs.Lines.{spot, and_then}
 use Rattle.sheet.proofs.Fields.{field_is}

@@ -1,5 +1,5 @@
-use Rattle.std.proofs.Common.{◌≡◌, suc, ◌+◌, ◌<◌, ◌≤◌, length, get_or, drop, sym, ap, ◌∙◌, subst, add-one, arith}
-use Rattle.sheet.specs.Tokens.{run, goes_on}
+use Rattle.std.proofs.Common.{sym, add-one, arith}
+use Rattle.sheet.specs.Tokens.{goes_on}
 use Rattle.sheet.proofs.Runs.{run_more, run_stop, run_none}
 use Rattle.sheet.proofs.reader.Reader.run_end.Goals as goal
 
