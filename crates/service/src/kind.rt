@@ -36,7 +36,8 @@ impl Kind for ServiceClass {
     }
 
     fn from_code(code: u16) -> Option<ServiceClass> {
-        if code < 32 {
+        let known = code < 32;
+        if known {
             ServiceClass::new((code / 4) as u8, (code % 4) as u8)
         } else {
             None

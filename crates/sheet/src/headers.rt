@@ -155,7 +155,8 @@ pub fn read_headers(sheet: &[u8], places: &mut [Header]) -> Result<usize, SheetF
     ensures settles { Settles HeaderLine sheet.now places.old places.new result }
     ensures one { OneMeaning HeaderLine sheet.now }
 {
-    if sheet.len() > LONGEST_SHEET {
+    let too_long = sheet.len() > LONGEST_SHEET;
+    if too_long {
         return Err(SheetFault::TooLong);
     }
     read_header_lines(sheet, places)

@@ -44,7 +44,8 @@ pub fn read_rules<K: Kind>(sheet: &[u8], places: &mut [Rule]) -> Result<usize, S
     ensures refusals { RefusalsRight (coded K.Kind.of_word K.Kind.code_of) sheet.now places.old places.new result }
     ensures one { OneMeaning (Line (coded K.Kind.of_word K.Kind.code_of)) sheet.now }
 {
-    if sheet.len() > LONGEST_SHEET {
+    let too_long = sheet.len() > LONGEST_SHEET;
+    if too_long {
         return Err(SheetFault::TooLong);
     }
     read_lines::<K>(sheet, places)

@@ -7,8 +7,8 @@ use Rattle.sheet.proofs.MeansRead.{settled, single_meaning}
 use Rattle.sheet.proofs.Turns.{too_long, not_too_long}
 use Rattle.sheet.proofs.headers.read_headers.Goals as goal
 
-pub returns-then-sheet-gt-LONGEST_SHEET : goal.returns-then-sheet-gt-LONGEST_SHEET
-returns-then-sheet-gt-LONGEST_SHEET c =
+pub returns-then-too_long : goal.returns-then-too_long
+returns-then-too_long c =
     let a = too_long header_at c.args.sheet.now c.args.places.now (omega arith) in
     record {
       answers = a;

@@ -7,8 +7,8 @@ use Rattle.sheet.proofs.Refused.{refused_rightly}
 use Rattle.sheet.proofs.Turns.{too_long, not_too_long}
 use Rattle.sheet.proofs.sheets.read_rules.Goals as goal
 
-pub returns-then-sheet-gt-LONGEST_SHEET : goal.returns-then-sheet-gt-LONGEST_SHEET
-returns-then-sheet-gt-LONGEST_SHEET g c =
+pub returns-then-too_long : goal.returns-then-too_long
+returns-then-too_long g c =
     let code = coded g.K.Kind.of_word g.K.Kind.code_of in
     let worded : Worded code = kind_worded g.K.Kind.of_word g.K.Kind.code_of g.K.Kind.word_of g.met.K.Kind.word_alone g.met.K.Kind.proper in
     let a = too_long (line_at code) c.args.sheet.now c.args.places.now (omega arith) in
