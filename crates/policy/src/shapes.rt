@@ -17,7 +17,8 @@ pub enum Shape {
     OneOrAll,
 }
 
-// The shape of each field's ranges.
+// The shape of each field's ranges. It stands beside the widths and not in one table with them: most
+// of what is said of headers goes over the widths alone, and no proof can name a constant of structs.
 pub const SHAPES: [Shape; FIELDS] = [
     Shape::Block,
     Shape::Block,
@@ -25,6 +26,14 @@ pub const SHAPES: [Shape; FIELDS] = [
     Shape::AnyRange,
     Shape::OneOrAll,
 ];
+
+// What the ranges of a field are like: how wide they may be, and their shape.
+#[derive(Clone, Copy)]
+struct Form {
+    width: u32,
+    shape: Shape,
+    ghost narrow: { width ≤ 32 },
+}
 
 impl Range {
     // Whether the range is a block of a field of this width.
@@ -42,44 +51,29 @@ impl Range {
         false
     }
 
-    // Whether the range has the shape, in a field of this width.
-    fn has_shape(&self, width: u32, shape: Shape) -> bool
-        requires { width ≤ 32 }
-        ensures yes { result ≡ true → Shaped width shape self.now.low self.now.high }
-        ensures otherwise { result ≡ false → Shaped width shape self.now.low self.now.high → ⊥ }
+    // Whether the range has the shape of the form.
+    fn has_shape(&self, form: Form) -> bool
+        ensures yes { result ≡ true → Shaped form.width form.shape self.now.low self.now.high }
+        ensures otherwise { result ≡ false → Shaped form.width form.shape self.now.low self.now.high → ⊥ }
     {
-        match shape {
-            Shape::Block => self.is_block(width),
+        match form.shape {
+            Shape::Block => self.is_block(form.width),
             Shape::AnyRange => true,
             Shape::OneOrAll => self.low == self.high
-                || self.low == 0 && self.high as u64 == (1u64 << width) - 1,
+                || self.low == 0 && self.high as u64 == (1u64 << form.width) - 1,
         }
     }
 
-    // Whether the range is good for a field of this width and shape.
-    fn is_good(&self, width: u32, shape: Shape) -> bool
-        requires { width ≤ 32 }
-        ensures yes { result ≡ true → GoodRange width shape self.now }
-        ensures otherwise { result ≡ false → GoodRange width shape self.now → ⊥ }
+    // Whether the range is good for a field of this form.
+    fn is_good(&self, form: Form) -> bool
+        ensures yes { result ≡ true → GoodRange form.width form.shape self.now }
+        ensures otherwise { result ≡ false → GoodRange form.width form.shape self.now → ⊥ }
     {
-        if self.low > self.high || self.high as u64 >> width != 0 {
+        if self.low > self.high || self.high as u64 >> form.width != 0 {
             return false;
         }
-        self.has_shape(width, shape)
+        self.has_shape(form)
     }
-}
-
-// Whether each range is good for its field.
-fn good_ranges(ranges: &[Range; FIELDS]) -> bool
-    ensures yes { result ≡ true → GoodRanges widths shapes ranges.now }
-    ensures otherwise { result ≡ false → GoodRanges widths shapes ranges.now → ⊥ }
-{
-    for (field, range) in ranges.iter().enumerate() {
-        if !range.is_good(WIDTHS[field], SHAPES[field]) {
-            return false;
-        }
-    }
-    true
 }
 
 impl Rule {
@@ -88,6 +82,15 @@ impl Rule {
         ensures yes { result ≡ true → GoodRanges widths shapes self.now.ranges }
         ensures otherwise { result ≡ false → GoodRanges widths shapes self.now.ranges → ⊥ }
     {
-        good_ranges(&self.ranges)
+        for (field, range) in self.ranges.iter().enumerate() {
+            let form = Form {
+                width: WIDTHS[field],
+                shape: SHAPES[field],
+            };
+            if !range.is_good(form) {
+                return false;
+            }
+        }
+        true
     }
 }

@@ -23,10 +23,7 @@ fn word_of(text: &[u8]) -> Word
     requires { IsWord text.now }
     ensures { word_bytes result ≡ text.now }
 {
-    match Word::new(text) {
-        Some(word) => word,
-        None => unreachable(),
-    }
+    Word::new(text).unwrap()
 }
 
 // The reason that these digits write, without a leading zero.
@@ -91,10 +88,7 @@ impl Kind for Verdict {
         match code {
             0 => Some(Verdict::Accept),
             1 => Some(Verdict::Discard),
-            16..=31 => match Reason::new((code - 16) as u8) {
-                Some(reason) => Some(Verdict::Reject(reason)),
-                None => None,
-            },
+            16..=31 => Some(Verdict::Reject(Reason::new((code - 16) as u8)?)),
             _ => None,
         }
     }
@@ -114,9 +108,7 @@ impl Kind for Verdict {
         if bytes == b"discard".as_slice() {
             return Some(Verdict::Discard);
         }
-        match reason_of(bytes.strip_prefix(b"reject-")?) {
-            Some(reason) => Some(Verdict::Reject(reason)),
-            None => None,
-        }
+        let reason = reason_of(bytes.strip_prefix(b"reject-")?)?;
+        Some(Verdict::Reject(reason))
     }
 }

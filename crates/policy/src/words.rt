@@ -22,13 +22,11 @@ impl Word {
         if text.is_empty() || text.len() > LONGEST {
             return None;
         }
-        let mut bytes = [0; LONGEST];
-        for (i, byte) in text.iter().enumerate() {
-            if *byte == b',' || *byte == b'\n' {
-                return None;
-            }
-            bytes[i] = *byte;
+        if text.contains(&b',') || text.contains(&b'\n') {
+            return None;
         }
+        let mut bytes = [0; LONGEST];
+        bytes[..text.len()].copy_from_slice(text);
         Some(Word {
             bytes,
             len: text.len(),
@@ -39,6 +37,6 @@ impl Word {
     pub fn as_bytes(&self) -> &[u8]
         ensures { result.now ≡ take self.now.len self.now.bytes }
     {
-        &self.bytes[0..self.len]
+        &self.bytes[..self.len]
     }
 }

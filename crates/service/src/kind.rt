@@ -46,10 +46,7 @@ impl Kind for ServiceClass {
 
     fn word(&self) -> Word {
         let text = [b'q', b'0' + self.queue(), b'.', b'0' + self.level()];
-        match Word::new(&text) {
-            Some(word) => word,
-            None => unreachable(),
-        }
+        Word::new(&text).unwrap()
     }
 
     fn from_word(bytes: &[u8]) -> Option<ServiceClass> {

@@ -10,6 +10,6 @@ returns-then-self c =
       otherwise = λ e good.
           elim c.then-self.branch [
             | goal.then-self-via-then-self w ↦ omega (arith, w.if-self.true, good.ordered)
-            | goal.then-self-via-else-self+then-self-width-ne0 w ↦ w.if-self-width-ne0.true (shift_below _ _ good.high_fits)
+            | goal.then-self-via-else-self+then-self-form-ne0 w ↦ w.if-self-form-ne0.true (shift_below _ _ good.high_fits)
           ];
     }

@@ -27,16 +27,17 @@ returns-in_err-strip_prefix c =
     (differs c.eq-2.result (slice_eq-Decides Decides-eqb _ _ _ c.eq-2.ensures) c.as_slice-2.ensures c.if-eq-2.false)
     (λ reason e. other (decimal reason.n) e)
 
-pub returns-in-Some : goal.returns-in-Some
-returns-in-Some c =
+pub returns : goal.returns
+returns c =
     let front = MatchOption-at_some _ _ c.in_ok-strip_prefix.field-0 c.in_ok-strip_prefix.was (strip_prefix_is Decides-eqb c.args.bytes.now (codes "reject-") c.strip_prefix.result c.strip_prefix.ensures.cases) in
-    word_found c.args.bytes.now (Reject c.in-Some.reason)
-    (ap (λ (ds : List ℕ). codes "reject-" ++ ds) c.in-Some.ensures ∙ sym front)
+    word_found c.args.bytes.now (Reject c.in_ok-reason.reason)
+    (ap (λ (ds : List ℕ). codes "reject-" ++ ds) c.in_ok-reason.ensures ∙ sym front)
 
-pub returns-in-None : goal.returns-in-None
-returns-in-None c =
+pub returns-in_err-reason : goal.returns-in_err-reason
+returns-in_err-reason c =
     let front = MatchOption-at_some _ _ c.in_ok-strip_prefix.field-0 c.in_ok-strip_prefix.was (strip_prefix_is Decides-eqb c.args.bytes.now (codes "reject-") c.strip_prefix.result c.strip_prefix.ensures.cases) in
-    word_of_no_verdict c.args.bytes.now
+    c.from_residual-in_err-reason.ensures
+    ∙ word_of_no_verdict c.args.bytes.now
     (differs c.eq.result (slice_eq-Decides Decides-eqb _ _ _ c.eq.ensures) c.as_slice.ensures c.if-eq.false)
     (differs c.eq-2.result (slice_eq-Decides Decides-eqb _ _ _ c.eq-2.ensures) c.as_slice-2.ensures c.if-eq-2.false)
-    (λ reason e. c.in-None.ensures reason (append_cancel_left (codes "reject-") (decimal reason.n) c.in_ok-strip_prefix.field-0.now (sym e ∙ front)))
+    (λ reason e. c.in_err-reason.ensures reason (append_cancel_left (codes "reject-") (decimal reason.n) c.in_ok-strip_prefix.field-0.now (sym e ∙ front)))
