@@ -1,7 +1,6 @@
 -- Whether the chain of a list fits.
 use Rattle.std.proofs.Common.{◌≡◌, ℕ, zero, suc, ◌<◌, ◌≤◌, List, [], ◌∷◌, length, get_or, Some, None, Option, sym, refl, ap, ◌∙◌, subst, inl, inr, arith}
 use Rattle.std.specs.Option.{option_map}
-use Rattle.std.proofs.lemmas.List.{length-take-le}
 use Rattle.store.specs.declared.row.Row.{Row}
 use Rattle.policy.specs.declared.rules.Rule.{Rule}
 use Rattle.policy.specs.Fields.{widths}
@@ -13,7 +12,7 @@ use Rattle.diagram.proofs.Unique.{determined}
 use Rattle.chain.specs.Counts.{edges}
 use Rattle.chain.proofs.Counting.{counts}
 use Rattle.compile.specs.declared.levels.Level.{Level as Nodes}
-use Rattle.compile.specs.Levels.{diagram_of, AllSound}
+use Rattle.compile.specs.Levels.{diagram_of}
 use Rattle.compile.specs.Lives.{code_at}
 use Rattle.compile.specs.Gaps.{Never}
 use Rattle.compile.specs.Places.{Fitting}
@@ -52,11 +51,9 @@ long_unfit rules D side R l F =
     let m : 1024 < length (chain side widths F.0) = subst P e l in
     omega (arith, m, counts.rows side widths F.0, counts.rows 0 widths F.0, F.2.rows)
 
-pub chained_fits : (Ls : List Nodes) (rows : List Row) (masks : List ℕ) (n side : ℕ) → AllSound Ls → length Ls ≡ 5 → length rows ≡ 1024
-    → Chained rows masks n side (diagram_of Ls) → Fitting (diagram_of Ls)
-chained_fits Ls rows masks n side S len room C = record {
-  nodes = λ f l. few_nodes Ls S len f l;
-  rows = (let a = ap length C.are in
-      let b = length-take-le n rows C.within in
-      omega (arith, a, b, C.within, counts.rows side widths (diagram_of Ls), counts.rows 0 widths (diagram_of Ls)));
+pub chained_fits : (Ls : List Nodes) (rows : List Row) (masks : List (List ℕ)) (side : ℕ) → length Ls ≡ 5 → length rows ≤ 1024
+    → Chained rows masks side (diagram_of Ls) → Fitting (diagram_of Ls)
+chained_fits Ls rows masks side len room C = record {
+  nodes = λ f l. few_nodes Ls len f l;
+  rows = (let a = ap length C.are in omega (arith, a, counts.rows side widths (diagram_of Ls), counts.rows 0 widths (diagram_of Ls)));
 }

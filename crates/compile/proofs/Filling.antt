@@ -1,6 +1,6 @@
 -- Rows that are written one after another.
-use Rattle.std.proofs.Common.{◌≡◌, ℕ, suc, ◌+◌, ◌-◌, ◌^◌, ◌<◌, ◌≤◌, Bool, true, false, ◌||◌, eqb, List, [], ◌∷◌, ◌++◌, length, get_or, take, drop, set, sym, refl, ap, ◌∙◌, subst, append_assoc, arith, length-append, pow_pos}
-use Rattle.std.proofs.lemmas.List.{append-nil, take_more_set, length-map, length-take-le, drop_more}
+use Rattle.std.proofs.Common.{◌≡◌, ℕ, suc, ◌+◌, ◌-◌, ◌^◌, ◌<◌, ◌≤◌, Bool, true, false, ◌||◌, eqb, List, [], ◌∷◌, ◌++◌, length, get_or, drop, sym, refl, ap, ◌∙◌, subst, append_assoc, arith, length-append, pow_pos}
+use Rattle.std.proofs.lemmas.List.{append-nil, length-map, drop_more}
 use Rattle.store.specs.declared.row.Row.{Row}
 use Rattle.diagram.specs.Blocks.{Block, cover}
 use Rattle.diagram.specs.Masks.{bit, With}
@@ -11,17 +11,16 @@ use Rattle.diagram.specs.Diagrams.{Node, Runs}
 use Rattle.diagram.specs.Chains.{rows_of_edge}
 use Rattle.diagram.proofs.Unique.{runs_top}
 use Rattle.compile.specs.declared.rows.Table.{Table}
-use Rattle.compile.specs.declared.rows.Written.{Written}
 use Rattle.compile.specs.declared.blocks.Block.{Block as Found}
 use Rattle.compile.specs.Pieces.{First}
 use Rattle.compile.specs.Writing.{key_in, rows_of, tiles_of, Extends}
 
 -- Some rows and tiles were written and others are left; together they are all.
-pub record Filled (before after : List Row) (from at : Written) (left : List Row) (tiles : List Tile) (all : List Row) (every : List Tile) : Type 0 where
-  pub rows : take at.count after ++ left ≡ take from.count before ++ all
-  pub lengths : (n : ℕ) → (bit at.lengths n || occurs tiles n) ≡ (bit from.lengths n || occurs every n)
+pub record Filled (before after : List Row) (from at : ℕ) (left : List Row) (tiles : List Tile) (all : List Row) (every : List Tile) : Type 0 where
+  pub rows : after ++ left ≡ before ++ all
+  pub lengths : (n : ℕ) → (bit at n || occurs tiles n) ≡ (bit from n || occurs every n)
 
-pub filled_none : (before : List Row) (from : Written) (all : List Row) (every : List Tile) → Filled before before from from all every all every
+pub filled_none : (before : List Row) (from : ℕ) (all : List Row) (every : List Tile) → Filled before before from from all every all every
 filled_none before from all every = record { rows = refl; lengths = λ n. refl }
 
 or_swap : (a b c : Bool) → ((a || b) || c) ≡ (b || (a || c))
@@ -31,12 +30,12 @@ or_swap false true c = refl
 or_swap false false c = refl
 
 -- one row more
-pub filled_more : (before after : List Row) (from at : Written) (row : Row) (tile : Tile) (left : List Row) (tiles : List Tile) (all : List Row) (every : List Tile) (more : ℕ)
-    → at.count < length after → With at.lengths tile.block.len more → Filled before after from at (row ∷ left) (tile ∷ tiles) all every
-    → Filled before (set after at.count row) from (record { count = at.count + 1; lengths = more }) left tiles all every
-filled_more before after from at row tile left tiles all every more l w F = record {
-  rows = ap (λ (z : List Row). z ++ left) (take_more_set after at.count row l) ∙ append_assoc (take at.count after) (row ∷ []) left ∙ F.rows;
-  lengths = λ n. ap (λ z. z || occurs tiles n) (w n) ∙ or_swap (eqb tile.block.len n) (bit at.lengths n) (occurs tiles n) ∙ F.lengths n;
+filled_more : (before after : List Row) (from at : ℕ) (row : Row) (tile : Tile) (left : List Row) (tiles : List Tile) (all : List Row) (every : List Tile) (more : ℕ)
+    → With at tile.block.len more → Filled before after from at (row ∷ left) (tile ∷ tiles) all every
+    → Filled before (after ++ row ∷ []) from more left tiles all every
+filled_more before after from at row tile left tiles all every more w F = record {
+  rows = append_assoc after (row ∷ []) left ∙ F.rows;
+  lengths = λ n. ap (λ z. z || occurs tiles n) (w n) ∙ or_swap (eqb tile.block.len n) (bit at n) (occurs tiles n) ∙ F.lengths n;
 }
 
 or_none : (b : Bool) → (b || false) ≡ b
@@ -44,34 +43,11 @@ or_none true = refl
 or_none false = refl
 
 -- nothing is left
-pub filled_all : (before after : List Row) (from at : Written) (all : List Row) (every : List Tile) → at.count ≤ length after → Filled before after from at [] [] all every
-    → Extends before after from at all every
-filled_all before after from at all every l F = record {
-  added = sym (append-nil (take at.count after)) ∙ F.rows;
-  within = l;
-  lengths = λ n. sym (or_none (bit at.lengths n)) ∙ F.lengths n;
+pub filled_all : (before after : List Row) (from at : ℕ) (all : List Row) (every : List Tile) → Filled before after from at [] [] all every → Extends before after from at all every
+filled_all before after from at all every F = record {
+  added = sym (append-nil after) ∙ F.rows;
+  lengths = λ n. sym (or_none (bit at n)) ∙ F.lengths n;
 }
-
--- no place is left
-pub no_place : (before after : List Row) (from at : Written) (x : Row) (left : List Row) (tiles : List Tile) (all : List Row) (every : List Tile)
-    → length after ≤ at.count → at.count ≤ length after → from.count ≤ length before → length after ≡ length before
-    → Filled before after from at (x ∷ left) tiles all every → length before < from.count + length all
-no_place before after from at x left tiles all every a b c d F =
-    let q = ap length F.rows in
-    let q1 = length-append (take at.count after) (x ∷ left) in
-    let q2 = length-append (take from.count before) all in
-    let q3 = length-take-le at.count after b in
-    let q4 = length-take-le from.count before c in
-    omega (arith, q, q1, q2, q3, q4)
-
--- the next block of an edge
-pub next_row : (t : Table) (to w low hi : ℕ) (b : Found) → First low hi w b
-    → rows_of t to (cover w low hi) ≡ record { key = key_in t (record { len = b.length; value = b.value }); result = to } ∷ rows_of t to (cover w (b.last + 1) hi)
-next_row t to w low hi b F = ap (rows_of t to) F.begins
-
-pub next_tile : (to w low hi : ℕ) (b : Found) → First low hi w b
-    → tiles_of to (cover w low hi) ≡ record { block = record { len = b.length; value = b.value }; to = to } ∷ tiles_of to (cover w (b.last + 1) hi)
-next_tile to w low hi b F = ap (tiles_of to) F.begins
 
 pub none_left : (w low hi : ℕ) → hi < low → cover w low hi ≡ []
 none_left w low hi l = covering_done (suc hi - low) w low hi l
@@ -79,34 +55,40 @@ none_left w low hi l = covering_done (suc hi - low) w low hi l
 rows_length : (t : Table) (to : ℕ) (bs : List Block) → length (rows_of t to bs) ≡ length bs
 rows_length t to bs = let f : Block → Row = λ (b : Block). record { key = key_in t b; result = to } in length-map bs f
 
--- the block that is found next in an edge
-module _ (before after : List Row) (from at : Written) (t : Table) (to w low next hi : ℕ) (b : Found) (F : First next hi w b)
-    (filled : Filled before after from at (rows_of t to (cover w next hi)) (tiles_of to (cover w next hi)) (rows_of t to (cover w low hi)) (tiles_of to (cover w low hi))) where
-  block_row : Row
-  block_row = record { key = key_in t (record { len = b.length; value = b.value }); result = to }
+-- there is no room for a part of what is left
+no_room : (before after : List Row) (from at : ℕ) (part left : List Row) (tiles : List Tile) (all : List Row) (every : List Tile) (n : ℕ)
+    → length part ≡ n → 1024 < length after + n → Filled before after from at (part ++ left) tiles all every → 1024 < length before + length all
+no_room before after from at part left tiles all every n p a F =
+    let q = ap length F.rows in
+    let q1 = length-append after (part ++ left) in
+    let q2 = length-append part left in
+    let q3 = length-append before all in
+    omega (arith, q, q1, q2, q3)
 
+-- the block that is found next in an edge
+module _ (before after : List Row) (from at : ℕ) (t : Table) (to w low next hi : ℕ) (b : Found) (F : First next hi w b)
+    (filled : Filled before after from at (rows_of t to (cover w next hi)) (tiles_of to (cover w next hi)) (rows_of t to (cover w low hi)) (tiles_of to (cover w low hi))) where
   opened : Filled before after from at (record { key = key_in t (record { len = b.length; value = b.value }); result = to } ∷ rows_of t to (cover w (b.last + 1) hi))
       (record { block = record { len = b.length; value = b.value }; to = to } ∷ tiles_of to (cover w (b.last + 1) hi)) (rows_of t to (cover w low hi)) (tiles_of to (cover w low hi))
   opened =
       let P : List Block → Type 0 = λ bs. Filled before after from at (rows_of t to bs) (tiles_of to bs) (rows_of t to (cover w low hi)) (tiles_of to (cover w low hi)) in
       subst P F.begins filled
 
-  pub edge_full : length after ≤ at.count → at.count ≤ length after → from.count ≤ length before → length after ≡ length before
-      → length before < from.count + length (cover w low hi)
-  edge_full a c d e =
+  pub edge_full : length after ≡ 1024 → 1024 < length before + length (cover w low hi)
+  edge_full full =
       let q = rows_length t to (cover w low hi) in
-      let r = no_place before after from at _ _ _ (rows_of t to (cover w low hi)) _ a c d e opened in
+      let r = no_room before after from at (record { key = key_in t (record { len = b.length; value = b.value }); result = to } ∷ []) _ _ (rows_of t to (cover w low hi)) _ 1 refl (omega arith) opened in
       omega (arith, q, r)
 
-  pub edge_more : (key more : ℕ) → at.count < length after → key ≡ key_in t (record { len = b.length; value = b.value }) → With at.lengths b.length more
-      → Filled before (set after at.count (record { key = key; result = to })) from (record { count = at.count + 1; lengths = more })
+  pub edge_more : (row : Row) (more : ℕ) → row ≡ record { key = key_in t (record { len = b.length; value = b.value }); result = to } → With at b.length more
+      → Filled before (after ++ row ∷ []) from more
       (rows_of t to (cover w (b.last + 1) hi)) (tiles_of to (cover w (b.last + 1) hi)) (rows_of t to (cover w low hi)) (tiles_of to (cover w low hi))
-  edge_more key more l k m =
-      let P : ℕ → Type 0 = λ z. Filled before (set after at.count (record { key = z; result = to })) from (record { count = at.count + 1; lengths = more })
+  edge_more row more k m =
+      let P : Row → Type 0 = λ z. Filled before (after ++ z ∷ []) from more
       (rows_of t to (cover w (b.last + 1) hi)) (tiles_of to (cover w (b.last + 1) hi)) (rows_of t to (cover w low hi)) (tiles_of to (cover w low hi)) in
       subst P (sym k)
       (filled_more before after from at (record { key = key_in t (record { len = b.length; value = b.value }); result = to })
-      (record { block = record { len = b.length; value = b.value }; to = to }) _ _ _ _ more l m opened)
+      (record { block = record { len = b.length; value = b.value }; to = to }) _ _ _ _ more m opened)
 
 -- edges that begin at low and go to the end of the field
 abbrev pub From : ℕ → ℕ → Node → Type 0
@@ -137,33 +119,20 @@ occurs_append (x ∷ xs) ys n = ap (λ b. eqb x.block.len n || b) (occurs_append
     or_assoc false b c = refl
 
 -- a part of what was left is written
-pub filled_part : (before after later : List Row) (from at to : Written) (part left : List Row) (tiles some : List Tile) (all : List Row) (every : List Tile)
+filled_part : (before after later : List Row) (from at to : ℕ) (part left : List Row) (tiles some : List Tile) (all : List Row) (every : List Tile)
     → Filled before after from at (part ++ left) (tiles ++ some) all every → Extends after later at to part tiles → Filled before later from to left some all every
 filled_part before after later from at to part left tiles some all every F E = record {
-  rows = ap (λ (z : List Row). z ++ left) E.added ∙ append_assoc (take at.count after) part left ∙ F.rows;
-  lengths = λ n. ap (λ b. b || occurs some n) (E.lengths n) ∙ or_move (bit at.lengths n) (occurs tiles n) (occurs some n)
-      ∙ ap (λ b. bit at.lengths n || b) (sym (occurs_append tiles some n)) ∙ F.lengths n;
+  rows = ap (λ (z : List Row). z ++ left) E.added ∙ append_assoc after part left ∙ F.rows;
+  lengths = λ n. ap (λ b. b || occurs some n) (E.lengths n) ∙ or_move (bit at n) (occurs tiles n) (occurs some n)
+      ∙ ap (λ b. bit at n || b) (sym (occurs_append tiles some n)) ∙ F.lengths n;
 }
   where
     or_move : (a b c : Bool) → ((a || b) || c) ≡ (a || (b || c))
     or_move true b c = refl
     or_move false b c = refl
 
--- there is no room for a part of what is left
-pub no_room : (before after : List Row) (from at : Written) (part left : List Row) (tiles : List Tile) (all : List Row) (every : List Tile) (n : ℕ)
-    → length part ≡ n → length after < at.count + n → at.count ≤ length after → from.count ≤ length before → length after ≡ length before
-    → Filled before after from at (part ++ left) tiles all every → length before < from.count + length all
-no_room before after from at part left tiles all every n p a b c d F =
-    let q = ap length F.rows in
-    let q1 = length-append (take at.count after) (part ++ left) in
-    let q5 = length-append part left in
-    let q2 = length-append (take from.count before) all in
-    let q3 = length-take-le at.count after b in
-    let q4 = length-take-le from.count before c in
-    omega (arith, q, q1, q2, q3, q4, q5)
-
 -- one edge of a node
-module _ (before after : List Row) (from at : Written) (t : Table) (w low i : ℕ) (es : Node) (l : i < length es)
+module _ (before after : List Row) (from at : ℕ) (t : Table) (w low i : ℕ) (es : Node) (l : i < length es)
     (F : Filled before after from at (rows_of_edge (key_in t) w low (drop i es)) (tiles_from w low (drop i es)) (rows_of_edge (key_in t) w 0 es) (table_tiles w es)) where
   edge_open : Filled before after from at
       (rows_of t (get_or es i no_edge).to (cover w low (get_or es i no_edge).high) ++ rows_of_edge (key_in t) w ((get_or es i no_edge).high + 1) (drop (i + 1) es))
@@ -173,12 +142,11 @@ module _ (before after : List Row) (from at : Written) (t : Table) (w low i : �
       let P : Node → Type 0 = λ z. Filled before after from at (rows_of_edge (key_in t) w low z) (tiles_from w low z) (rows_of_edge (key_in t) w 0 es) (table_tiles w es) in
       subst P (drop_more es i no_edge l) F
 
-  pub node_more : (later : List Row) (to : Written) → Extends after later at to (rows_of t (get_or es i no_edge).to (cover w low (get_or es i no_edge).high)) (tiles_of (get_or es i no_edge).to (cover w low (get_or es i no_edge).high))
+  pub node_more : (later : List Row) (to : ℕ) → Extends after later at to (rows_of t (get_or es i no_edge).to (cover w low (get_or es i no_edge).high)) (tiles_of (get_or es i no_edge).to (cover w low (get_or es i no_edge).high))
       → Filled before later from to (rows_of_edge (key_in t) w ((get_or es i no_edge).high + 1) (drop (i + 1) es)) (tiles_from w ((get_or es i no_edge).high + 1) (drop (i + 1) es)) (rows_of_edge (key_in t) w 0 es) (table_tiles w es)
   node_more later to E = filled_part before after later from at to _ _ _ _ _ _ edge_open E
 
-  pub node_full : length after < at.count + length (cover w low (get_or es i no_edge).high) → at.count ≤ length after → from.count ≤ length before → length after ≡ length before
-      → length before < from.count + length (rows_of_edge (key_in t) w 0 es)
-  node_full a b c d =
+  pub node_full : 1024 < length after + length (cover w low (get_or es i no_edge).high) → 1024 < length before + length (rows_of_edge (key_in t) w 0 es)
+  node_full a =
       no_room before after from at (rows_of t (get_or es i no_edge).to (cover w low (get_or es i no_edge).high)) _ _ (rows_of_edge (key_in t) w 0 es) _ (length (cover w low (get_or es i no_edge).high))
-      (rows_length t (get_or es i no_edge).to (cover w low (get_or es i no_edge).high)) a b c d edge_open
+      (rows_length t (get_or es i no_edge).to (cover w low (get_or es i no_edge).high)) a edge_open

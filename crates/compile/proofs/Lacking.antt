@@ -1,7 +1,8 @@
 -- The least numbers that a rule is the first live one to take.
-use Rattle.std.proofs.Common.{◌≡◌, ℕ, zero, suc, ◌+◌, ◌^◌, ◌<◌, ◌≤◌, Bool, true, false, cond, List, [], ◌∷◌, length, get_or, drop, set, Some, None, Option, sym, refl, ap, ◌∙◌, subst, ⊎_elim, arith, MatchOption}
-use Rattle.std.proofs.lemmas.Bool.{cases_eq, cases_lt, and_from}
-use Rattle.std.proofs.lemmas.List.{drop-set, length-set, get_or-set_same, get_or-set_other}
+use Rattle.std.proofs.Common.{◌≡◌, ℕ, zero, suc, ◌+◌, ◌^◌, ◌<◌, ◌≤◌, Bool, true, false, cond, eqb, List, [], ◌∷◌, length, get_or, drop, set, Some, None, Option, sym, refl, ap, ◌∙◌, subst, inl, inr, ⊎_elim, arith, MatchOption}
+use Rattle.std.proofs.lemmas.Bool.{cases_eq, cases_lt, and_from, eq-eqb, true≢false}
+use Rattle.std.specs.Option.{option_eq}
+use Rattle.std.proofs.lemmas.List.{drop-set}
 use Rattle.policy.specs.declared.rules.Rule.{Rule}
 use Rattle.policy.specs.Fields.{widths}
 use Rattle.policy.specs.Rules.{meets_from, rule_at}
@@ -10,7 +11,7 @@ use Rattle.diagram.specs.Masks.{bit}
 use Rattle.diagram.proofs.Steady.{header_step, header_cons}
 use Rattle.compile.specs.declared.lives.Piece.{Piece}
 use Rattle.compile.specs.declared.caches.Known.{Known}
-use Rattle.compile.specs.Builds.{nothing_known}
+use Rattle.compile.proofs.Memory.{held_set}
 use Rattle.compile.specs.Lives.{or_here, first_where, takes, first_live_rule, Live, Whole, Cut}
 use Rattle.compile.specs.Gaps.{LeastOfAll, Never, LeastLive, NeverLive, NoneBelow, Excludes}
 
@@ -92,18 +93,14 @@ none_all rules live field low t lf l N s H e =
     let u = header_step widths field s lf H in
     N u.0 u.1 (omega (arith, u.3)) u.4 (ap (λ (r : List ℕ). first_live_rule rules live field r) (sym u.2) ∙ e)
 
-pub excludes_more : (rules : List Rule) (t : Option ℕ) (known later : List Known) (i level live : ℕ) → later ≡ set known i (record { level = level; live = live; node = 0 })
+pub excludes_more : (rules : List Rule) (t : Option ℕ) (known later : List (Option Known)) (i level live : ℕ) → later ≡ set known i (Some (record { level = level; live = live; node = 0 }))
     → NeverLive rules live level t → Excludes rules t known → Excludes rules t later
 excludes_more rules t known later i level live e V X =
-    subst (λ (ks : List Known). Excludes rules t ks) (sym e) (λ j l.
-    (let new : Known = record { level = level; live = live; node = 0 } in
-    let lj : j < length known = subst (λ n. j < n) (length-set known i (record { level = level; live = live; node = 0 })) l in
-    let P : Known → Type 0 = λ z. z.level < 5 → NeverLive rules z.live z.level t in
-    ⊎_elim
-    (λ (s : j ≡ i). subst P (sym (ap (λ n. get_or (set known i (record { level = level; live = live; node = 0 })) n nothing_known) s
-    ∙ get_or-set_same known i (record { level = level; live = live; node = 0 }) nothing_known (subst (λ n. n < length known) s lj))) (λ _. V))
-    (λ (s : j ≡ i → ⊥). subst P (sym (get_or-set_other known i j (record { level = level; live = live; node = 0 }) nothing_known s)) (X j lj))
-    (cases_eq j i)))
+    subst (λ (ks : List (Option Known)). Excludes rules t ks) (sym e) (λ z held.
+    elim (held_set known i (record { level = level; live = live; node = 0 }) z held) [
+      | inl q ↦ subst (λ (y : Known). NeverLive rules y.live y.level t) (sym q) V
+      | inr h ↦ X z h
+    ])
 
 -- of whole headers
 pub least_all : (rules : List Rule) (t : Option ℕ) (r : Option (List ℕ)) → Live rules [] 0xFFFF_FFFF_FFFF_FFFF
@@ -115,3 +112,11 @@ least_all rules t (Some g) A L = record {
   met = A g L.1.fits ∙ L.1.met;
   least = λ h H b e. L.1.least h H b (sym (A h H) ∙ e);
 }
+
+-- What a failed `==` of two rules, or none, says.
+pub targets_differ : (a b : Option ℕ) → false ≡ option_eq eqb a b → a ≡ b → ⊥
+targets_differ a b e q = true≢false (sym (subst (λ x. option_eq eqb a x ≡ true) q (itself a)) ∙ sym e)
+  where
+    itself : (o : Option ℕ) → option_eq eqb o o ≡ true
+    itself None = refl
+    itself (Some i) = eq-eqb i i refl

@@ -1,5 +1,6 @@
 pub mod Living
 pub mod Slots
+pub mod Memory
 pub mod Turns
 pub mod Lacking
 pub mod Filling

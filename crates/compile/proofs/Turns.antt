@@ -1,7 +1,6 @@
 -- One turn of the builder, and its start and end.
-use Rattle.std.proofs.Common.{◌≡◌, ℕ, suc, ◌+◌, ◌^◌, ◌<◌, ◌≤◌, true, false, ◌≢◌, ◌⊎◌, List, [], ◌∷◌, ◌++◌, length, get_or, take, drop, set, is_some, Some, None, Option, sym, ap, ◌∙◌, subst, inl, inr, append_assoc, add-one, arith, MatchOption}
-use Rattle.std.proofs.lemmas.Bool.{cases_eq, true≢false}
-use Rattle.std.proofs.lemmas.List.{append-nil, take_all, length-map, length-take-le, get_or-map, take_more_set, map-set, set-get_or, get_or-set_same, get_or-set_other, length-set, length-append}
+use Rattle.std.proofs.Common.{◌≡◌, ℕ, suc, ◌+◌, ◌^◌, ◌<◌, ◌≤◌, ◌≢◌, ◌⊎◌, List, [], ◌∷◌, ◌++◌, length, get_or, take, drop, set, Some, None, Option, sym, ap, ◌∙◌, subst, inl, inr, append_assoc, add-one, arith, MatchOption}
+use Rattle.std.proofs.lemmas.List.{append-nil, take_all, length-map, length-take-le, get_or-map, take_more_set, map-set, set-get_or, length-set, length-append}
 use Rattle.policy.specs.declared.rules.Rule.{Rule}
 use Rattle.policy.specs.Fields.{widths}
 use Rattle.policy.specs.Rules.{decide, first}
@@ -17,27 +16,29 @@ use Rattle.diagram.proofs.Steady.{nodes_here, level_here}
 use Rattle.diagram.proofs.Added.{partial_step, partial_none, partial_made}
 use Rattle.diagram.proofs.Building.{begin, leaf_built, share_built, append_built, empty_state}
 use Rattle.compile.specs.declared.levels.Level.{Level}
-use Rattle.compile.specs.Levels.{nodes_of, diagram_of, Sound, AllSound, Shared, Refused}
+use Rattle.compile.specs.Levels.{nodes_of, diagram_of, AllBare, Shared, Refused}
 use Rattle.compile.specs.declared.lives.Piece.{Piece}
 use Rattle.compile.specs.declared.caches.Known.{Known}
-use Rattle.compile.specs.Lives.{Live, AllWhole, Cut, first_live_rule, code_at}
-use Rattle.compile.specs.Builds.{Ready, Finished, Remembers, Leads, nothing_known}
+use Rattle.compile.specs.Lives.{Live, Cut, first_live_rule, code_at}
+use Rattle.compile.specs.Builds.{Ready, Finished, Remembers, Holds, Leads}
 use Rattle.std.specs.Option.{option_map}
 use Rattle.diagram.proofs.Skips.{skip_built}
+use Rattle.compile.proofs.Memory.{held_set, no_entry}
 
-pub record Turn (rules : List Rule) (header : List ℕ) (field : ℕ) (Ls Ms : List Level) (ms : List Known) (low : ℕ) (node : Node) : Type 0 where
+pub record Turn (rules : List Rule) (header : List ℕ) (field : ℕ) (Ls Ms : List Level) (ms : List (Option Known)) (low : ℕ) (node : Node) : Type 0 where
   pub state : State widths (decide rules) (diagram_of Ms) (λ q. Before q (take field header ++ low ∷ []))
   pub grows : Grows widths (diagram_of Ls) (diagram_of Ms)
-  pub sound : AllSound Ms
   pub part : Partial widths (decide rules) (diagram_of Ms) (take field header) low node
   pub memory : Remembers rules (diagram_of Ms) ms
 
-pub turn_start : (rules : List Rule) (wholes header : List ℕ) (live field : ℕ) (Ls : List Level) (ms : List Known) → Ready rules wholes header live field Ls ms → Turn rules header field Ls Ls ms 0 []
-turn_start rules wholes header live field Ls ms R =
+pub turn_five : {rules : List Rule} {header : List ℕ} {field : ℕ} {Ls Ms : List Level} {ms : List (Option Known)} {low : ℕ} {node : Node} → Turn rules header field Ls Ms ms low node → length Ms ≡ 5
+turn_five {Ms = Ms} Tn = sym (length-map Ms nodes_of) ∙ Tn.state.levels
+
+pub turn_start : (rules : List Rule) (header : List ℕ) (live field : ℕ) (Ls : List Level) (ms : List (Option Known)) → Ready rules header live field Ls ms → Turn rules header field Ls Ls ms 0 []
+turn_start rules header live field Ls ms R =
     record {
       state = begin widths (decide rules) (diagram_of Ls) (take field header) R.state;
       grows = grows_refl widths (diagram_of Ls);
-      sound = R.sound;
       part = partial_none widths (decide rules) (diagram_of Ls) (take field header);
       memory = R.memory;
     }
@@ -63,8 +64,8 @@ module _ (rules : List Rule) (p : List ℕ) (live low top : ℕ) (piece : Piece)
       ∙ ap (option_map (code_at rules)) (met y l m h c ∙ sym (met low (omega arith) C.ahead h c))
       ∙ sym (decide_first rules (p ++ low ∷ h))
 
-module _ (rules : List Rule) (wholes header : List ℕ) (live field : ℕ) (Ks : List Level) (ks : List Known) (R : Ready rules wholes header live field Ks ks)
-    (Ls Ms : List Level) (ms : List Known) (low top : ℕ) (piece : Piece) (node : Node) (lf : field < 5)
+module _ (rules : List Rule) (header : List ℕ) (live field : ℕ) (Ks : List Level) (ks : List (Option Known)) (R : Ready rules header live field Ks ks)
+    (Ls Ms : List Level) (ms : List (Option Known)) (low top : ℕ) (piece : Piece) (node : Node) (lf : field < 5)
     (Tn : Turn rules header field Ls Ms ms low node) (et : top + 1 ≡ 2 ^ get_or widths field 0) (C : Cut rules live field low top piece) where
   lp : length (take field header) ≡ field
   lp = length-take-le field header (omega (arith, R.size))
@@ -81,21 +82,18 @@ module _ (rules : List Rule) (wholes header : List ℕ) (live field : ℕ) (Ks :
   top_is : top + 1 ≡ 2 ^ get_or widths (length (take field header)) 0
   top_is = et ∙ ap (λ n. 2 ^ get_or widths n 0) (sym lp)
 
-  pub turn_ready : Ready rules wholes (set header field low) piece.live (field + 1) Ms ms
+  pub turn_ready : Ready rules (set header field low) piece.live (field + 1) Ms ms
   turn_ready =
       record {
         most = omega arith;
         size = length-set header field low ∙ R.size;
-        few = R.few;
         begins = subst (λ (q : List ℕ). Begins widths q) (sym longer) (begins_more widths (take field header) low R.begins (omega (arith, lp)) lw);
         alive = subst (λ (q : List ℕ). Live rules q piece.live) (sym longer) (live_more rules (take field header) live low top piece (omega (arith, lp)) top_is R.alive cut);
-        whole = R.whole;
         state = subst (λ (p : List ℕ). State widths (decide rules) (diagram_of Ms) (λ q. Before q p)) (sym longer) Tn.state;
-        sound = Tn.sound;
         memory = Tn.memory;
       }
 
-  pub turn_step : (Ns : List Level) (ns : List Known) (t : ℕ)
+  pub turn_step : (Ns : List Level) (ns : List (Option Known)) (t : ℕ)
       → Finished rules (set header field low) (field + 1) Ms Ns ns t → Turn rules header field Ls Ns ns (piece.end + 1) (added node piece.end t)
   turn_step Ns ns t F =
       let high : ℕ = piece.end in
@@ -108,7 +106,6 @@ module _ (rules : List Rule) (wholes header : List ℕ) (live field : ℕ) (Ks :
         state = subst (λ n. State widths (decide rules) (diagram_of Ns) (λ q. Before q (take field header ++ n ∷ []))) (sym (add-one piece.end))
             (range_step widths (decide rules) (diagram_of Ns) (take field header) low piece.end C.ahead hw (λ y l m h c. alike y l m h c) B.state);
         grows = grows_trans widths (diagram_of Ls) (diagram_of Ms) (diagram_of Ns) Tn.grows B.grows;
-        sound = F.sound;
         part = subst (λ n. Partial widths (decide rules) (diagram_of Ns) (take field header) n (added node piece.end t)) (sym (add-one piece.end))
             (partial_step widths (decide rules) (diagram_of Ms) (diagram_of Ns) (take field header) low piece.end t node Tn.part B.grows (omega (arith, lp)) C.ahead
             (λ y l m h c. alike y l m h c) B.means
@@ -116,29 +113,19 @@ module _ (rules : List Rule) (wholes header : List ℕ) (live field : ℕ) (Ks :
         memory = F.memory;
       }
 
-all_sound_set : (Ls : List Level) (f : ℕ) (M : Level) → AllSound Ls → Sound M → AllSound (set Ls f M)
-all_sound_set Ls f M A S g L l =
-    let lg : g < length Ls = subst (λ n. g < n) (length-set Ls f M) l in
-    elim (cases_eq g f) [
-      | inl e ↦ subst (λ (z : Level). Sound z) (sym (ap (λ i. get_or (set Ls f M) i L) e ∙ get_or-set_same Ls f M L (subst (λ i. i < length Ls) e lg))) S
-      | inr n ↦ subst (λ (z : Level). Sound z) (sym (get_or-set_other Ls f g M L n)) (A g L lg)
-    ]
-
-remembers_grows : (rules : List Rule) (D E : Diagram) (ms : List Known) → Grows widths D E → Remembers rules D ms → Remembers rules E ms
-remembers_grows rules D E ms G R i l g =
-    let u = R i l g in
-    let e = get_or ms i nothing_known in (
-      omega (arith, u.0, G.more (get_or ms i nothing_known).level),
-      λ h c. u.1 h c ∙ ap (λ n. Some n) (sym (G.same (get_or ms i nothing_known).level (get_or ms i nothing_known).node u.0 h c.0)),
+remembers_grows : (rules : List Rule) (D E : Diagram) (ms : List (Option Known)) → Grows widths D E → Remembers rules D ms → Remembers rules E ms
+remembers_grows rules D E ms G R e h =
+    let u = R e h in (
+      omega (arith, u.0, G.more e.level),
+      λ q c. u.1 q c ∙ ap (λ n. Some n) (sym (G.same e.level e.node u.0 q c.0)),
     )
 
-pub turn_end : (rules : List Rule) (header : List ℕ) (field : ℕ) (Ls Ms : List Level) (ms : List Known) (low : ℕ) (node : Node) (L₀ M : Level) (k : ℕ)
+pub turn_end : (rules : List Rule) (header : List ℕ) (field : ℕ) (Ls Ms : List Level) (ms : List (Option Known)) (low : ℕ) (node : Node) (L₀ M : Level) (k : ℕ)
     → length header ≡ 5 → field < 5 → length Ms ≡ 5 → Begins widths (take field header) → Turn rules header field Ls Ms ms low node → low ≡ 2 ^ get_or widths field 0
     → Shared (get_or Ms field L₀) M node k → Finished rules header field Ls (set Ms field M) ms k
 turn_end rules header field Ls Ms ms low node L₀ M k lh lf lm b Tn lw Sh =
     record {
       built = (go Sh.either).0;
-      sound = all_sound_set Ms field M Tn.sound Sh.sound;
       memory = remembers_grows rules (diagram_of Ms) (diagram_of (set Ms field M)) ms (go Sh.either).1 Tn.memory;
     }
   where
@@ -189,9 +176,9 @@ turn_end rules header field Ls Ms ms low node L₀ M k lh lf lm b Tn lw Sh =
         )
 
 -- a whole header: the code of the first rule met
-pub leaf_end : (rules : List Rule) (wholes header : List ℕ) (live field : ℕ) (Ls : List Level) (ms : List Known) → Ready rules wholes header live field Ls ms → field ≡ 5
+pub leaf_end : (rules : List Rule) (header : List ℕ) (live field : ℕ) (Ls : List Level) (ms : List (Option Known)) → Ready rules header live field Ls ms → field ≡ 5
     → (o : Option ℕ) → o ≡ option_map (code_at rules) (first_live_rule rules live 5 []) → MatchOption o (Failed widths (decide rules)) (λ k. Finished rules header field Ls Ls ms k)
-leaf_end rules wholes header live field Ls ms R e o q = go o (q ∙ sym there)
+leaf_end rules header live field Ls ms R e o q = go o (q ∙ sym there)
   where
     h : take field header ≡ header
     h = take_all field header (omega (arith, R.size))
@@ -212,12 +199,11 @@ leaf_end rules wholes header live field Ls ms R e o q = go o (q ∙ sym there)
     go (Some k) q =
         record {
           built = leaf_built widths (decide rules) (diagram_of Ls) (take field header) k lp R.state (ap (decide rules) h ∙ sym q);
-          sound = R.sound;
           memory = R.memory;
         }
 
 -- too many edges in one node
-pub wide_end : (rules : List Rule) (header : List ℕ) (field : ℕ) (Ls Ms : List Level) (ms : List Known) (high : ℕ) (node : Node) → length header ≡ 5 → field < 5
+pub wide_end : (rules : List Rule) (header : List ℕ) (field : ℕ) (Ls Ms : List Level) (ms : List (Option Known)) (high : ℕ) (node : Node) → length header ≡ 5 → field < 5
     → Begins widths (take field header) → Turn rules header field Ls Ms ms (high + 1) node → high < 2 ^ get_or widths field 0 → 1024 < length node
     → Failed widths (decide rules)
 wide_end rules header field Ls Ms ms high node lh lf b Tn lw w =
@@ -227,7 +213,7 @@ wide_end rules header field Ls Ms ms high node lh lf b Tn lw w =
     (subst (λ n. Partial widths (decide rules) (diagram_of Ms) (take field header) n node) (add-one high) Tn.part) w)
 
 -- no room for a further node
-pub crowded_end : (rules : List Rule) (header : List ℕ) (field : ℕ) (Ls Ms : List Level) (ms : List Known) (low : ℕ) (node : Node) (L₀ : Level)
+pub crowded_end : (rules : List Rule) (header : List ℕ) (field : ℕ) (Ls Ms : List Level) (ms : List (Option Known)) (low : ℕ) (node : Node) (L₀ : Level)
     → length header ≡ 5 → field < 5 → length Ms ≡ 5 → Begins widths (take field header) → Turn rules header field Ls Ms ms low node → low ≡ 2 ^ get_or widths field 0
     → Refused (get_or Ms field L₀) node → Failed widths (decide rules)
 crowded_end rules header field Ls Ms ms low node L₀ lh lf lm b Tn lw Rf =
@@ -264,17 +250,15 @@ crowded_end rules header field Ls Ms ms low node L₀ lh lf lm b Tn lw Rf =
         inr (omega arith)
 
 -- the node is known
-pub recall_end : (rules : List Rule) (wholes header : List ℕ) (live field : ℕ) (Ls : List Level) (ms : List Known) (k i : ℕ)
-    → Ready rules wholes header live field Ls ms → field < 5 → i < length ms → get_or ms i nothing_known ≡ record { level = field; live = live; node = k }
+pub recall_end : (rules : List Rule) (header : List ℕ) (live field : ℕ) (Ls : List Level) (ms : List (Option Known)) (k : ℕ)
+    → Ready rules header live field Ls ms → field < 5 → Holds ms (record { level = field; live = live; node = k })
     → Finished rules header field Ls Ls ms k
-recall_end rules wholes header live field Ls ms k i R lf l e =
-    let P : Known → Type 0 = λ z. z.level < 5 → Leads rules (diagram_of Ls) z.level z.live z.node in
-    let u : Leads rules (diagram_of Ls) field live k = subst P e (R.memory i l) lf in
+recall_end rules header live field Ls ms k R lf held =
+    let u = R.memory (record { level = field; live = live; node = k }) held in
     record {
       built = skip_built widths (decide rules) (diagram_of Ls) (take field header) k (omega (arith, lp)) R.state (subst (λ n. k < nodes (diagram_of Ls) n) (sym lp) u.0)
           (λ h c. decide_first rules (take field header ++ h) ∙ ap (option_map (code_at rules)) (R.alive h c ∙ ap (λ n. first_live_rule rules live n h) lp)
           ∙ u.1 h (subst (λ n. Header (drop n widths) h) lp c) ∙ ap (λ n. Some (walk (drop n (diagram_of Ls)) k h)) (sym lp));
-      sound = R.sound;
       memory = R.memory;
     }
   where
@@ -282,10 +266,10 @@ recall_end rules wholes header live field Ls ms k i R lf l e =
     lp = length-take-le field header (omega (arith, R.size))
 
 -- and is kept
-pub remember_end : (rules : List Rule) (wholes header : List ℕ) (live field : ℕ) (Ks : List Level) (ks : List Known) → Ready rules wholes header live field Ks ks → field < 5
-    → (Ls Ms : List Level) (ms : List Known) (k i : ℕ) → Finished rules header field Ls Ms ms k
-    → Finished rules header field Ls Ms (set ms i (record { level = field; live = live; node = k })) k
-remember_end rules wholes header live field Ks ks R lf Ls Ms ms k i F = record { built = F.built; sound = F.sound; memory = kept }
+pub remember_end : (rules : List Rule) (header : List ℕ) (live field : ℕ) (Ks : List Level) (ks : List (Option Known)) → Ready rules header live field Ks ks → field < 5
+    → (Ls Ms : List Level) (ms : List (Option Known)) (k i : ℕ) → Finished rules header field Ls Ms ms k
+    → Finished rules header field Ls Ms (set ms i (Some (record { level = field; live = live; node = k }))) k
+remember_end rules header live field Ks ks R lf Ls Ms ms k i F = record { built = F.built; memory = kept }
   where
     lp : length (take field header) ≡ field
     lp = length-take-le field header (omega (arith, R.size))
@@ -299,35 +283,23 @@ remember_end rules wholes header live field Ks ks R lf Ls Ms ms k i F = record {
           ∙ F.built.means h d ∙ ap (λ n. Some (walk (drop n (diagram_of Ms)) k h)) lp),
     )
 
-    P : Known → Type 0
-    P z = z.level < 5 → Leads rules (diagram_of Ms) z.level z.live z.node
+    kept : Remembers rules (diagram_of Ms) (set ms i (Some (record { level = field; live = live; node = k })))
+    kept e held = elim (held_set ms i (record { level = field; live = live; node = k }) e held) [
+      | inl q ↦ subst (λ (z : Known). Leads rules (diagram_of Ms) z.level z.live z.node) (sym q) new
+      | inr h ↦ F.memory e h
+    ]
 
-    kept : Remembers rules (diagram_of Ms) (set ms i (record { level = field; live = live; node = k }))
-    kept j l =
-        let lj : j < length ms = subst (λ n. j < n) (length-set ms i (record { level = field; live = live; node = k })) l in
-        elim (cases_eq j i) [
-          | inl e ↦ subst P (sym (ap (λ n. get_or (set ms i (record { level = field; live = live; node = k })) n nothing_known) e
-              ∙ get_or-set_same ms i (record { level = field; live = live; node = k }) nothing_known (subst (λ n. n < length ms) e lj))) (λ _. new)
-          | inr n ↦ subst P (sym (get_or-set_other ms i j (record { level = field; live = live; node = k }) nothing_known n)) (F.memory j lj)
-        ]
-
-pub ready_start : (rules : List Rule) (wholes header : List ℕ) (Ls : List Level) (ms : List Known) → length header ≡ 5 → length Ls ≡ 5 → length rules ≤ 64 → AllWhole rules wholes → AllSound Ls
-    → ((g : ℕ) → length (get_or (diagram_of Ls) g []) ≡ 0) → ((i : ℕ) → i < length ms → (get_or ms i nothing_known).level ≡ 5) → Ready rules wholes header 0xFFFF_FFFF_FFFF_FFFF 0 Ls ms
-ready_start rules wholes header Ls ms lh ll few W S z none =
+pub ready_start : (rules : List Rule) (header : List ℕ) (Ls : List Level) (ms : List (Option Known)) → length header ≡ 5 → length Ls ≡ 5 → length rules ≤ 64
+    → AllBare Ls → ((i : ℕ) → get_or ms i None ≡ None) → Ready rules header 0xFFFF_FFFF_FFFF_FFFF 0 Ls ms
+ready_start rules header Ls ms lh ll few z none =
     record {
       most = omega arith;
       size = lh;
-      few = few;
       begins = tt;
       alive = start_live rules few;
-      whole = W;
       state = empty_state widths (decide rules) (diagram_of Ls) (length-map Ls nodes_of ∙ ll) z;
-      sound = S;
-      memory = λ i l g. absurd (omega (arith, none i l));
+      memory = λ e h. absurd (no_entry ms none e h);
     }
 
-pub all_done : (rules : List Rule) (header : List ℕ) (Ls Ms : List Level) (ms : List Known)
-    → (o : Option ℕ) → MatchOption o (Failed widths (decide rules)) (λ k. Finished rules header 0 Ls Ms ms k)
-    → (is_some o ≡ true → AllSound Ms × Reduced widths (decide rules) (diagram_of Ms)) × (is_some o ≡ false → Failed widths (decide rules))
-all_done rules header Ls Ms ms None q = ((λ e. absurd (true≢false (sym e))), λ _. q)
-all_done rules header Ls Ms ms (Some k) q = ((λ _. (q.sound, reduced widths (decide rules) (diagram_of Ms) (omega arith) q.built.state)), λ e. absurd (true≢false e))
+pub all_done : (rules : List Rule) (header : List ℕ) (Ls Ms : List Level) (ms : List (Option Known)) (k : ℕ) → Finished rules header 0 Ls Ms ms k → Reduced widths (decide rules) (diagram_of Ms)
+all_done rules header Ls Ms ms k q = reduced widths (decide rules) (diagram_of Ms) (omega arith) q.built.state

@@ -1,5 +1,5 @@
 -- What compiling a list answers and leaves.
-use Rattle.std.specs.Prelude.{ℕ, ◌%◌, List, None, Option}
+use Rattle.std.specs.Prelude.{◌≡◌, ℕ, ◌%◌, List, length, None, Option}
 use Rattle.questions.specs.Asking.{ask, accept}
 use Rattle.policy.specs.declared.rules.Rule.{Rule}
 use Rattle.policy.specs.Fields.{widths}
@@ -32,7 +32,8 @@ compile_asks coded rules = list_asks coded rules (ask 10 (Never rules None) (ask
 pub record Made (rules : List Rule) (side : ℕ) (place : Place) (rows : ℕ) : Type 0 where
   pub reduced : Reduced widths (decide rules) (diagram_in place)
   pub fits : Fitting (diagram_in place)
-  pub chained : Chained place.rows place.lengths rows (side % 4) (diagram_in place)
+  pub chained : Chained place.rows.items place.lengths (side % 4) (diagram_in place)
+  pub count : rows ≡ length place.rows.items
 
 -- A refusal names the first rule that is not good, or the least header that meets no rule.
 abbrev pub CompileNames : (ℕ → Type 0) → List Rule → CompileRefusal → Type 0

@@ -1,12 +1,12 @@
 -- The least header whose first rule met is a given one, or that meets no rule.
-use Rattle.std.specs.Prelude.{◌≡◌, ℕ, suc, ◌<◌, ◌≢◌, List, ◌∷◌, length, drop, Option, slice_index_or}
+use Rattle.std.specs.Prelude.{◌≡◌, ℕ, suc, ◌<◌, ◌≢◌, List, ◌∷◌, drop, Option}
 use Rattle.policy.specs.declared.rules.Rule.{Rule}
 use Rattle.policy.specs.Fields.{widths}
 use Rattle.policy.specs.Rules.{first}
 use Rattle.diagram.specs.Diagrams.{Header, Before}
 use Rattle.compile.specs.declared.caches.Known.{Known}
 use Rattle.compile.specs.Lives.{first_live_rule}
-use Rattle.compile.specs.Builds.{nothing_known}
+use Rattle.compile.specs.Builds.{Holds}
 
 -- g is the least header whose first rule met is t; where t is none, the least that meets no rule.
 pub record LeastOfAll (rules : List Rule) (t : Option ℕ) (g : List ℕ) : Type 0 where
@@ -33,7 +33,5 @@ NoneBelow rules live field t low =
     (y : ℕ) (h : List ℕ) → y < low → Header (drop (suc field) widths) h → first_live_rule rules live field (y ∷ h) ≢ t
 
 -- What is known is so: for the live rules of an entry there are no such numbers.
-abbrev pub Excludes : List Rule → Option ℕ → List Known → Type 0
-Excludes rules t known =
-    (i : ℕ) → i < length known → (slice_index_or known i nothing_known).level < 5
-    → NeverLive rules (slice_index_or known i nothing_known).live (slice_index_or known i nothing_known).level t
+abbrev pub Excludes : List Rule → Option ℕ → List (Option Known) → Type 0
+Excludes rules t known = (e : Known) → Holds known e → NeverLive rules e.live e.level t

@@ -1,38 +1,20 @@
 -- What the levels of a diagram place hold.
-use Rattle.std.specs.Prelude.{◌≡◌, ℕ, ◌+◌, ◌-◌, ◌^◌, ◌<◌, ◌≤◌, ◌≢◌, ◌⊎◌, List, [], ◌∷◌, ◌++◌, map, length, get_or, take, drop, slice_index, slice_index_or}
+use Rattle.std.specs.Prelude.{◌≡◌, ℕ, ◌+◌, ◌-◌, ◌^◌, ◌<◌, ◌≤◌, ◌≢◌, ◌⊎◌, List, [], ◌∷◌, ◌++◌, map, length, slice_index, slice_index_or}
 use Rattle.policy.specs.Fields.{widths}
-use Rattle.diagram.specs.declared.edges.Edge.{Edge}
 use Rattle.diagram.specs.Diagrams.{Node, Diagram, Runs}
 use Rattle.diagram.specs.States.{total}
-use Rattle.compile.specs.declared.levels.Slot.{Slot}
 use Rattle.compile.specs.declared.levels.Level.{Level}
-
--- The edges of the node at a slot.
-abbrev pub node_of : List Edge → Slot → Node
-node_of es s = take s.count (drop s.start es)
+use Rattle.compile.specs.Nodes.{nodes_in}
 
 -- The nodes of a level, and the diagram of all levels.
 abbrev pub nodes_of : Level → List Node
-nodes_of L = map (node_of L.edges) (take L.count L.slots)
+nodes_of L = nodes_in L.edges.items L.slots.items
 
 abbrev pub diagram_of : List Level → Diagram
 diagram_of Ls = map nodes_of Ls
 
--- A level in order: its places are there, and its nodes lie among the edges used.
-pub record Sound (L : Level) : Type 0 where
-  pub slots : length L.slots ≡ 256
-  pub edges : length L.edges ≡ 1024
-  pub few : L.count ≤ 256
-  pub room : L.used ≤ 1024
-  pub sum : L.used ≡ total (nodes_of L)
-  pub within : (k : ℕ) (s : Slot) → k < L.count → (get_or L.slots k s).start + (get_or L.slots k s).count ≤ L.used
-
-abbrev pub AllSound : List Level → Type 0
-AllSound Ls = (g : ℕ) (L : Level) → g < length Ls → Sound (slice_index_or Ls g L)
-
 -- Node k of the level has these edges: it was there, or is new.
 pub record Shared (L M : Level) (edges : Node) (k : ℕ) : Type 0 where
-  pub sound : Sound M
   pub either : ((nodes_of M ≡ nodes_of L) × (k < length (nodes_of L)) × (slice_index_or (nodes_of L) k [] ≡ edges))
       ⊎ ((nodes_of M ≡ nodes_of L ++ edges ∷ []) × (k ≡ length (nodes_of L)) × ((j : ℕ) → j < length (nodes_of L) → slice_index_or (nodes_of L) j [] ≢ edges))
 
@@ -51,3 +33,7 @@ AllRuns w nodes = (k : ℕ) → k < length nodes → Runs (2 ^ w - 1) 0 (slice_i
 
 abbrev pub EachRuns : Diagram → Type 0
 EachRuns D = (f : ℕ) → f < 5 → AllRuns (slice_index widths f) (slice_index_or D f [])
+
+-- No level has a node.
+abbrev pub AllBare : List Level → Type 0
+AllBare Ls = (g : ℕ) → length (slice_index_or (diagram_of Ls) g []) ≡ 0

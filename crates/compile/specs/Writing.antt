@@ -1,5 +1,5 @@
 -- Rows that are written one after another, and the block lengths that occur in them.
-use Rattle.std.specs.Prelude.{◌≡◌, ℕ, ◌+◌, ◌*◌, ◌<◌, ◌≤◌, ◌||◌, ◌⊎◌, List, [], ◌++◌, map, length, take, slice_index, slice_index_or}
+use Rattle.std.specs.Prelude.{◌≡◌, ℕ, ◌<◌, ◌||◌, List, [], ◌++◌, map, length, slice_index, slice_index_or}
 use Rattle.store.specs.declared.row.Row.{Row}
 use Rattle.policy.specs.Fields.{widths}
 use Rattle.diagram.specs.Blocks.{Block}
@@ -9,7 +9,6 @@ use Rattle.diagram.specs.Diagrams.{Node, Diagram}
 use Rattle.diagram.specs.Chains.{rows_of_level, chain}
 use Rattle.chain.specs.Tables.{Tile, occurs, table}
 use Rattle.compile.specs.declared.rows.Table.{Table}
-use Rattle.compile.specs.declared.rows.Written.{Written}
 
 -- The key of a block in a table.
 abbrev pub key_in : Table → Block → ℕ
@@ -23,25 +22,20 @@ abbrev pub tiles_of : ℕ → List Block → List Tile
 tiles_of to bs = map (λ (b : Block). record { block = b; to = to }) bs
 
 -- After the rows that stood there these rows stand, and their lengths were added.
-pub record Extends (before after : List Row) (from to : Written) (rows : List Row) (tiles : List Tile) : Type 0 where
-  pub added : take to.count after ≡ take from.count before ++ rows
-  pub within : to.count ≤ length after
-  pub lengths : (n : ℕ) → bit to.lengths n ≡ (bit from.lengths n || occurs tiles n)
+pub record Extends (before after : List Row) (from to : ℕ) (rows : List Row) (tiles : List Tile) : Type 0 where
+  pub added : after ≡ before ++ rows
+  pub lengths : (n : ℕ) → bit to n ≡ (bit from n || occurs tiles n)
 
--- The block lengths that occur in each table of a level stand from a place on.
-abbrev pub Measured : List ℕ → ℕ → ℕ → List Node → ℕ → Type 0
-Measured masks base w nodes k = (j : ℕ) → j < k → (n : ℕ) → bit (slice_index masks (base + j)) n ≡ occurs (table w (slice_index_or nodes j [])) n
+-- For each of the first k nodes it is told which block lengths occur in its table.
+abbrev pub Measured : List ℕ → ℕ → List Node → ℕ → Type 0
+Measured masks w nodes k = (j : ℕ) → j < k → (n : ℕ) → bit (slice_index masks j) n ≡ occurs (table w (slice_index_or nodes j [])) n
 
--- The rows of a level's tables follow those that stood there, and their lengths are told; no other place
--- for lengths changed.
-pub record Levelled (before after : List Row) (masks later : List ℕ) (from to : ℕ) (side w level base : ℕ) (nodes : List Node) : Type 0 where
-  pub added : take to after ≡ take from before ++ rows_of_level side w level 0 nodes
-  pub within : to ≤ length after
-  pub told : Measured later base w nodes (length nodes)
-  pub others : (i : ℕ) → (i < base) ⊎ (base + 256 ≤ i) → slice_index later i ≡ slice_index masks i
+-- The rows of a level's tables follow those that stood there, and their lengths are told.
+pub record Levelled (before after : List Row) (masks : List ℕ) (side w level : ℕ) (nodes : List Node) : Type 0 where
+  pub added : after ≡ before ++ rows_of_level side w level 0 nodes
+  pub told : Measured masks w nodes (length nodes)
 
--- The first rows are those of the chain, and for each table it is told which lengths occur.
-pub record Chained (rows : List Row) (masks : List ℕ) (count side : ℕ) (D : Diagram) : Type 0 where
-  pub are : take count rows ≡ chain side widths D
-  pub within : count ≤ length rows
-  pub told : (f : ℕ) → f < 5 → Measured masks (f * 256) (slice_index widths f) (slice_index_or D f []) (length (slice_index_or D f []))
+-- The rows are those of the chain, and for each table it is told which lengths occur.
+pub record Chained (rows : List Row) (masks : List (List ℕ)) (side : ℕ) (D : Diagram) : Type 0 where
+  pub are : rows ≡ chain side widths D
+  pub told : (f : ℕ) → f < 5 → Measured (slice_index_or masks f []) (slice_index widths f) (slice_index_or D f []) (length (slice_index_or D f []))

@@ -27,16 +27,19 @@ fn largest_exponent(low: u32, high: u32, width: u32) -> u32
     ensures bound { result ≤ width }
     ensures within { low ≤ high → low + 2 ^ result ≤ high + 1 }
 {
-    let mut e = width;
-    while e > 0 && !has_room(low, high, e) {
-        e -= 1;
+    for e in (1..=width).rev() {
+        if has_room(low, high, e) {
+            return e;
+        }
     }
-    e
+    0
 }
 
 // The first block of the cover of the values from low to high.
 pub(crate) fn next_block(low: u32, high: u32, width: u32) -> Block
-    requires { (width ≤ 32) × ((low ≤ high) × (high < 2 ^ width)) }
+    requires narrow { width ≤ 32 }
+    requires ordered { low ≤ high }
+    requires fits { high < 2 ^ width }
     ensures { First low high width result }
 {
     let e = largest_exponent(low, high, width);

@@ -1,10 +1,9 @@
-// What is known of live rules, kept by a hash: an entry may be overwritten at any time.
-ghost use Rattle.std.specs.Prelude.{◌≡◌, ℕ, ◌<◌, length, get_or, set, IfSome, slice_index_or, slice_set};
-ghost use Rattle.compile.specs.Builds.{nothing_known as unknown};
+// What is known of live rules, kept by a hash: an entry may be overwritten at any time. It is no map of
+// the library, since a place has its memory from the start and takes no more.
+ghost use Rattle.std.specs.Prelude.{◌≡◌, ℕ, ◌<◌, Some, None, IfSome, slice_index_or, slice_set};
+ghost use Rattle.compile.specs.Builds.{Holds};
 
-use policy::fields::FIELDS;
-
-// The node of a level for a set of live rules. The level is past the last where nothing is known.
+// The node of a level for a set of live rules.
 #[derive(Clone, Copy)]
 pub struct Known {
     pub level: usize,
@@ -22,14 +21,13 @@ fn place(level: usize, live: u64, places: usize) -> usize
 }
 
 // The node that is known for these rules.
-pub(crate) fn recall(known: &[Known], level: usize, live: u64) -> Option<u16>
-    ensures { IfSome result (λ k. (i : ℕ) × (i < length known.now) × (slice_index_or known.now i unknown ≡ record { level = level; live = live; node = k })) }
+pub(crate) fn recall(known: &[Option<Known>], level: usize, live: u64) -> Option<u16>
+    ensures { IfSome result (λ k. Holds known.now (record { level = level; live = live; node = k })) }
 {
     if known.is_empty() {
         return None;
     }
-    let at = place(level, live, known.len());
-    let entry = known[at];
+    let entry = known[place(level, live, known.len())]?;
     if entry.level == level && entry.live == live {
         Some(entry.node)
     } else {
@@ -37,25 +35,19 @@ pub(crate) fn recall(known: &[Known], level: usize, live: u64) -> Option<u16>
     }
 }
 
-// Keeps the node for these rules.
-pub(crate) fn remember(known: &mut [Known], level: usize, live: u64, node: u16)
-    ensures { (i : ℕ) × (known.new ≡ slice_set known.old i (record { level = level; live = live; node = node })) }
+// Keeps an entry.
+pub(crate) fn remember(known: &mut [Option<Known>], entry: Known)
+    ensures { (i : ℕ) × (known.new ≡ slice_set known.old i (Some entry)) }
 {
     if !known.is_empty() {
-        let at = place(level, live, known.len());
-        known[at] = Known { level, live, node };
+        let at = place(entry.level, entry.live, known.len());
+        known[at] = Some(entry);
     }
 }
 
 // Forgets all.
-pub(crate) fn forget(known: &mut [Known])
-    ensures { (i : ℕ) → i < length known.new → (get_or known.new i unknown).level ≡ 5 }
+pub(crate) fn forget(known: &mut [Option<Known>])
+    ensures { (i : ℕ) → slice_index_or known.new i None ≡ None }
 {
-    for entry in known.iter_mut() {
-        *entry = Known {
-            level: FIELDS,
-            live: 0,
-            node: 0,
-        };
-    }
+    known.fill(None);
 }

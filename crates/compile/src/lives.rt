@@ -4,6 +4,7 @@ ghost use Rattle.diagram.specs.Masks.{bit, With};
 ghost use Rattle.std.specs.Option.{option_map};
 ghost use Rattle.policy.specs.Fields.{widths};
 ghost use Rattle.compile.specs.Lives.{AllWhole, Whole, Widened, Cut, Narrowed, first_live_rule, code_at};
+ghost use Rattle.compile.specs.Gaps.{NeverLive};
 
 use policy::fields::{FIELDS, WIDTHS};
 use policy::rules::Rule;
@@ -34,7 +35,10 @@ pub(crate) fn with_rule(mask: u64, rule: usize) -> u64
 // Looks at one rule more for the run of values that begins at low: the run ends before a value at which
 // the rule begins or ends, and the rule is kept where it takes these values.
 fn narrow(rule: &Rule, i: usize, live: u64, field: usize, low: u32, piece: Piece) -> Piece
-    requires { (i < 64) × ((field < 5) × ((low ≤ piece.end) × (bit piece.live i ≡ false))) }
+    requires rule { i < 64 }
+    requires field { field < 5 }
+    requires ahead { low ≤ piece.end }
+    requires new { bit piece.live i ≡ false }
     ensures { Narrowed rule.now i live field low piece result }
 {
     let range = rule.ranges[field];
@@ -56,22 +60,6 @@ fn narrow(rule: &Rule, i: usize, live: u64, field: usize, low: u32, piece: Piece
     }
 }
 
-// The run of values that begins at low: up to the first value at which a live rule begins or ends. Rules
-// after the first one that takes all values of this run and of all further fields are left out.
-pub(crate) fn cut(rules: &[Rule], live: u64, field: usize, whole: u64, low: u32, top: u32) -> Piece
-    requires { (length rules.now ≤ 64) × ((field < 5) × ((low ≤ top) × (Whole rules.now (field + 1) whole))) }
-    ensures { Cut rules.now live field low top result }
-{
-    let mut piece = Piece { end: top, live: 0 };
-    for (i, rule) in rules.iter().enumerate() {
-        piece = narrow(rule, i, live, field, low, piece);
-        if is_live(piece.live, i) && is_live(whole, i) {
-            return piece;
-        }
-    }
-    piece
-}
-
 // The highest value of a field.
 pub(crate) fn top_of(field: usize) -> u32
     requires { field < 5 }
@@ -80,34 +68,10 @@ pub(crate) fn top_of(field: usize) -> u32
     ((1u64 << WIDTHS[field]) - 1) as u32
 }
 
-// The first live rule.
-pub(crate) fn first_live(rules: &[Rule], live: u64) -> Option<usize>
-    requires { length rules.now ≤ 64 }
-    ensures value { result ≡ first_live_rule rules.now live 5 [] }
-    ensures within { IfSome result (λ i. i < length rules.now) }
-{
-    for i in 0..rules.len() {
-        if is_live(live, i) {
-            return Some(i);
-        }
-    }
-    None
-}
-
-// The code of the first live rule.
-pub(crate) fn first_code(rules: &[Rule], live: u64) -> Option<u16>
-    requires { length rules.now ≤ 64 }
-    ensures { result ≡ option_map (code_at rules.now) (first_live_rule rules.now live 5 []) }
-{
-    match first_live(rules, live) {
-        Some(i) => Some(rules[i].code),
-        None => None,
-    }
-}
-
 // The mask with one more rule, where that takes all values of this field and of the fields after it.
 fn with_whole(rule: &Rule, i: usize, field: usize, after: u64, mask: u64) -> u64
-    requires { (i < 64) × (field < 5) }
+    requires rule { i < 64 }
+    requires field { field < 5 }
     ensures { Widened rule.now i field after mask result }
 {
     let range = rule.ranges[field];
@@ -119,7 +83,9 @@ fn with_whole(rule: &Rule, i: usize, field: usize, after: u64, mask: u64) -> u64
 
 // Of the rules that take all values of the fields after this one, those that take all of this field too.
 fn whole_from(rules: &[Rule], field: usize, after: u64) -> u64
-    requires { (length rules.now ≤ 64) × ((field < 5) × (Whole rules.now (field + 1) after)) }
+    requires few { length rules.now ≤ 64 }
+    requires field { field < 5 }
+    requires after { Whole rules.now (field + 1) after }
     ensures { Whole rules.now field result }
 {
     let mut mask = 0;
@@ -131,15 +97,90 @@ fn whole_from(rules: &[Rule], field: usize, after: u64) -> u64
 
 // For each field, the rules that take all values of it and of all further fields; past the last field,
 // all rules.
-pub(crate) fn whole_masks(rules: &[Rule]) -> [u64; 6]
+fn whole_masks(rules: &[Rule]) -> [u64; 6]
     requires { length rules.now ≤ 64 }
     ensures { AllWhole rules.now result }
 {
     let mut masks = [u64::MAX; 6];
-    let mut field = FIELDS;
-    while field > 0 {
-        field -= 1;
+    for field in (0..FIELDS).rev() {
         masks[field] = whole_from(rules, field, masks[field + 1]);
     }
     masks
+}
+
+// A list of at most 64 rules, with its masks of rules that take all values from a field on.
+#[derive(Clone, Copy)]
+pub(crate) struct Lives<'a> {
+    pub(crate) rules: &'a [Rule],
+    pub(crate) wholes: [u64; 6],
+    ghost few: { length rules.now ≤ 64 },
+    ghost whole: { AllWhole rules.now wholes },
+}
+
+impl<'a> Lives<'a> {
+    pub(crate) fn new(rules: &'a [Rule]) -> Lives<'a>
+        requires { length rules.now ≤ 64 }
+        ensures { result.rules.now ≡ rules.now }
+    {
+        Lives {
+            rules,
+            wholes: whole_masks(rules),
+        }
+    }
+
+    // The run of values that begins at low: up to the first value at which a live rule begins or ends.
+    // Rules after the first one that takes all values of this run and of all further fields are left out.
+    pub(crate) fn cut(&self, live: u64, field: usize, low: u32, top: u32) -> Piece
+        requires field { field < 5 }
+        requires low { low ≤ top }
+        ensures { Cut self.now.rules.now live field low top result }
+    {
+        let whole = self.wholes[field + 1];
+        let mut piece = Piece { end: top, live: 0 };
+        for (i, rule) in self.rules.iter().enumerate() {
+            piece = narrow(rule, i, live, field, low, piece);
+            if is_live(piece.live, i) && is_live(whole, i) {
+                return piece;
+            }
+        }
+        piece
+    }
+
+    // The first live rule.
+    pub(crate) fn first(&self, live: u64) -> Option<usize>
+        ensures value { result ≡ first_live_rule self.now.rules.now live 5 [] }
+        ensures within { IfSome result (λ i. i < length self.now.rules.now) }
+    {
+        for i in 0..self.rules.len() {
+            if is_live(live, i) {
+                return Some(i);
+            }
+        }
+        None
+    }
+
+    // The code of the first live rule.
+    pub(crate) fn first_code(&self, live: u64) -> Option<u16>
+        ensures { result ≡ option_map (code_at self.now.rules.now) (first_live_rule self.now.rules.now live 5 []) }
+    {
+        let first = self.first(live)?;
+        Some(self.rules[first].code)
+    }
+
+    // Whether the target cannot be the first live rule, since it comes after one that takes all numbers.
+    pub(crate) fn shadows(&self, live: u64, field: usize, target: Option<usize>) -> bool
+        requires { field < 5 }
+        ensures { result ≡ true → NeverLive self.now.rules.now live field target }
+    {
+        let whole = self.wholes[field];
+        for i in 0..self.rules.len() {
+            if target == Some(i) {
+                return false;
+            }
+            if is_live(live, i) && is_live(whole, i) {
+                return true;
+            }
+        }
+        false
+    }
 }

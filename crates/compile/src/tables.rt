@@ -1,41 +1,37 @@
 // The tables of a chain, as a card keeps them.
-ghost use Rattle.std.specs.Prelude.{◌≡◌};
-ghost use Rattle.compile.specs.Levels.{AllSound};
-ghost use Rattle.compile.specs.Places.{Bare};
+ghost use Rattle.std.specs.Prelude.{◌≡◌, length, take};
 
-use crate::places::{MAX_ROWS, MAX_TABLES, Place, clear_levels};
+use crate::levels::MAX_NODES;
+use crate::places::Place;
+use crate::rows::{Lengths, MAX_ROWS};
+use policy::fields::FIELDS;
 use store::row::Row;
 
-// The rows of a chain, from the first place on, and for each table which block lengths occur in it, as the bits of
-// a number: the table of node n at level l (from 0) has place 256 × l + n.
+// The rows of a chain, from the first place on, and for each node of each level which block lengths occur in its
+// table, as the bits of a number.
 #[derive(Clone, Copy)]
 pub struct Tables {
     pub rows: [Row; MAX_ROWS],
-    pub lengths: [u64; MAX_TABLES],
+    pub lengths: Lengths,
 }
 
 // Tables without rows.
 pub const NO_TABLES: Tables = Tables {
     rows: [Row { key: 0, result: 0 }; MAX_ROWS],
-    lengths: [0; MAX_TABLES],
+    lengths: [[0; MAX_NODES]; FIELDS],
 };
 
 impl Place {
     // The tables of the list that was compiled here.
     pub fn tables(&self) -> Tables
-        ensures { result ≡ record { rows = self.now.rows; lengths = self.now.lengths } }
+        ensures rows { take (length self.now.rows.items) result.rows ≡ self.now.rows.items }
+        ensures lengths { result.lengths ≡ self.now.lengths }
     {
+        let mut rows = NO_TABLES.rows;
+        rows[..self.rows.len()].copy_from_slice(&self.rows);
         Tables {
-            rows: self.rows,
+            rows,
             lengths: self.lengths,
         }
-    }
-
-    // Leaves an empty diagram in the place.
-    pub fn clear(&mut self)
-        ensures bare { Bare self.new }
-        ensures order { AllSound self.new.levels }
-    {
-        clear_levels(&mut self.levels);
     }
 }

@@ -5,7 +5,7 @@ ghost use Rattle.store.specs.Meaning.{number as number_of};
 // The most rows that a store has room for.
 pub const MOST_ROWS: usize = 4096;
 
-#[derive(Clone, Copy, PartialEq, Eq, Debug)]
+#[derive(Clone, Copy, PartialEq, Eq, Default, Debug)]
 pub struct Row {
     pub key: u64,
     pub result: u16,

@@ -4,6 +4,3 @@ use Rattle.compile.proofs.blocks.largest_exponent.Given as goal
 
 abbrev pub invariant-loop-e : goal.invariant-loop-e
 invariant-loop-e l = (l.e ≤ l.width) × (largest l.low l.high l.e ≡ largest l.low l.high l.width)
-
-abbrev pub decreases-loop-e : goal.decreases-loop-e
-decreases-loop-e l = l.e

@@ -1,14 +1,19 @@
-use Rattle.std.proofs.Common.{◌≡◌, [], ◌∷◌, length, sym, refl, ◌∙◌, rules}
+use Rattle.std.proofs.Common.{[], ◌∷◌, List, sym, refl, subst}
+use Rattle.policy.specs.declared.rules.Rule.{Rule}
+use Rattle.policy.specs.Fields.{widths}
+use Rattle.policy.specs.Rules.{decide}
+use Rattle.diagram.specs.Diagrams.{Reduced}
+use Rattle.compile.specs.Levels.{diagram_of}
+use Rattle.compile.specs.Builds.{Ready}
 use Rattle.compile.proofs.Turns.{ready_start, all_done}
 use Rattle.compile.proofs.build.reduce.Goals as goal
 
 pub build-requires : goal.build-requires
 build-requires c =
-    let l : length c.clear_levels.new.levels ≡ 5 = search rules in
-    ready_start c.args.rules.now c.whole_masks-wholes.result (0 ∷ 0 ∷ 0 ∷ 0 ∷ 0 ∷ []) c.clear_levels.new.levels c.forget.new.known refl l c.requires c.whole_masks-wholes.ensures
-    c.clear_levels.ensures.sound c.clear_levels.ensures.none c.forget.ensures
+    subst (λ (rs : List Rule). Ready rs (0 ∷ 0 ∷ 0 ∷ 0 ∷ 0 ∷ []) 0xFFFF_FFFF_FFFF_FFFF 0 c.clear_levels.new.levels c.forget.new.known) (sym c.new-lives.ensures)
+    (ready_start c.args.rules.now (0 ∷ 0 ∷ 0 ∷ 0 ∷ 0 ∷ []) c.clear_levels.new.levels c.forget.new.known refl c.clear_levels.ensures.five c.requires c.clear_levels.ensures.bare c.forget.ensures)
 
 pub returns : goal.returns
 returns c =
-    let d = all_done c.args.rules.now (0 ∷ 0 ∷ 0 ∷ 0 ∷ 0 ∷ []) c.clear_levels.new.levels c.build.new.levels c.build.new.known c.build.result c.build.ensures in
-    record { made = λ e. d.0 (sym c.is_some.ensures ∙ e); failed = λ e. d.1 (sym c.is_some.ensures ∙ e) }
+    subst (λ (rs : List Rule). Reduced widths (decide rs) (diagram_of c.build.new.levels)) c.new-lives.ensures
+    (all_done c.new-lives.result.rules.now (0 ∷ 0 ∷ 0 ∷ 0 ∷ 0 ∷ []) c.clear_levels.new.levels c.build.new.levels c.build.new.known c.in_ok-build.field-0 c.in_ok-build.ensures)

@@ -16,7 +16,6 @@ returns-in_err-check_list g c =
     (record {
       asked = list_refused (Coded g.K.Kind.of_code) c.args.rules.now (ask 10 (Never c.args.rules.now None) (ask 11 (Fits c.args.rules.now) accept))
           (list_number c.in_err-check_list.field-0.0) h.asked;
-      made = c.clear_levels.ensures.none;
-      order = c.clear_levels.ensures.sound;
+      made = c.clear.ensures;
       names = h.names;
     })

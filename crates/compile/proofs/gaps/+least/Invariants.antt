@@ -6,7 +6,7 @@ abbrev pub decreases-least : goal.decreases-least
 decreases-least l = 5 - l.field
 
 abbrev pub invariant-loop-low : goal.invariant-loop-low
-invariant-loop-low l = (l.low ≤ l.top + 1) × NoneBelow l.rules l.live l.field l.target l.low × Excludes l.rules l.target l.known
+invariant-loop-low l = (l.low ≤ l.top + 1) × NoneBelow l.lives.rules.now l.live l.field l.target l.low × Excludes l.lives.rules.now l.target l.known
 
 abbrev pub decreases-loop-low : goal.decreases-loop-low
 decreases-loop-low l = l.top + 1 - l.low

@@ -1,6 +1,0 @@
-use Rattle.std.proofs.Common.{◌≤◌}
-use Rattle.compile.specs.Lives.{Looked}
-use Rattle.compile.proofs.lives.cut.Given as goal
-
-abbrev pub invariant-loop-i : goal.invariant-loop-i
-invariant-loop-i l = (l.low ≤ l.piece.end) × (l.piece.end ≤ l.top) × Looked l.rules l.live l.field l.low l.i l.piece
