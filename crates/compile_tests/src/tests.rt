@@ -48,22 +48,19 @@ fn bad_rule_is_named(rt: HostRuntime) {
     assert_eq!(rt; compile::<Verdict>(&rules, 0, &mut place), Err(refused));
 }
 
-// Gives each rule but the last of 64 ports of its own and a code by the port.
-fn spread_ports(rules: &mut [Rule]) {
-    let mut port = 1u32;
-    for rule in rules.iter_mut() {
-        if port < 63 * 1021 {
-            rule.ranges[2] = Range {
+// Gives each rule but the last ports of its own and a code by the port.
+fn spread_ports(rules: &mut [Rule; 64]) {
+    for (i, rule) in rules.iter_mut().enumerate() {
+        if i < 63 {
+            let port = 1 + 1021 * i as u32;
+            let alone = Range {
                 low: port,
                 high: port,
             };
-            rule.ranges[3] = Range {
-                low: port,
-                high: port,
-            };
+            rule.ranges[2] = alone;
+            rule.ranges[3] = alone;
             rule.code = 16 + (port / 2 % 16) as u16;
         }
-        port = port.wrapping_add(1021);
     }
 }
 
