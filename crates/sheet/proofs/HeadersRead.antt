@@ -4,17 +4,17 @@ use Rattle.std.proofs.lemmas.Bool.{cases_Bool, and_parts, and_from, leb-true, le
 use Rattle.policy.specs.declared.fields.Header.{Header}
 use Rattle.faults.specs.declared.Spot.{Spot}
 use Rattle.sheet.specs.declared.tokens.Mark.{Mark}
-use Rattle.sheet.specs.declared.tokens.Mark.TheVariants.{Dot, Comma, LineFeed}
-use Rattle.sheet.specs.Tokens.{run}
-use Rattle.sheet.specs.Forms.{Want, digits, the, byte, Read, got, fault, walk}
-use Rattle.sheet.specs.Headers.{dotted_form, number_form, dotted_of, up_to, dotted_at, number_at, numbers_at, header_of, header_at}
+use Rattle.sheet.specs.declared.tokens.Mark.TheVariants.{Comma, LineFeed}
+use Rattle.std.specs.List.{prefix_len}
+use Rattle.sheet.specs.Forms.{Want, digits, byte, Read, got, fault, way_at}
+use Rattle.sheet.specs.Headers.{number_way, up_to, dotted_at, number_at, numbers_at, header_of, header_at}
 use Rattle.sheet.specs.Lines.{spot}
-use Rattle.sheet.specs.Readings.{address_low, meant, ranged}
+use Rattle.sheet.specs.Readings.{address_low, dotted_of, dotted_rest, meant, ranged}
 use Rattle.sheet.specs.Sheets.{not_feed, good}
 use Rattle.sheet.specs.Meaning.{Dotted, UpTo, HeaderLine}
 use Rattle.sheet.proofs.PortsOnly.{meant_got}
-use Rattle.sheet.proofs.Singles.{single_way}
-use Rattle.sheet.proofs.Sound.{Spelt, In, here, there, walk_sound}
+use Rattle.sheet.proofs.Singles.{way_found}
+use Rattle.sheet.proofs.Sound.{Spelt, In, here, there, way_sound}
 use Rattle.sheet.proofs.LinesRead.{after_field, step, then_got, got_same}
 use Rattle.sheet.proofs.MeansRead.{Found, Only, Taken}
 use Rattle.sheet.proofs.Unfed.{run_before}
@@ -27,7 +27,7 @@ apart : (a b c d : ℕ) (end : List ℕ) → (decimal a ++ (46 ∷ (decimal b ++
 apart a b c d end = simp append_assoc
 
 dotted_spelt : (a b c d : ℕ) → a < 100000 → b < 100000 → c < 100000 → d < 100000 →
-    Spelt (digits ∷ the Dot ∷ digits ∷ the Dot ∷ digits ∷ the Dot ∷ digits ∷ the Comma ∷ []) (dotted_text a b c d (44 ∷ [])) (a ∷ b ∷ c ∷ d ∷ [])
+    Spelt (digits ∷ dotted_rest Comma) (dotted_text a b c d (44 ∷ [])) (a ∷ b ∷ c ∷ d ∷ [])
 dotted_spelt a b c d ha hb hc hd =
     record {
       n = a;
@@ -97,7 +97,7 @@ dotted_found s text rest p at n D e =
     let full : drop at s ≡ dotted_text a b c d (44 ∷ []) ++ rest = e ∙ ap (λ (t : List ℕ). t ++ (44 ∷ rest)) D.text_is ∙ simp append_assoc in
     let size : length text + 1 ≡ length (dotted_text a b c d (44 ∷ [])) =
     let q = ap (λ (t : List ℕ). length (t ++ (44 ∷ []))) D.text_is ∙ ap length (apart a b c d (44 ∷ [])) in omega (arith, q, length-append text (44 ∷ [])) in
-    ap (meant dotted_of p at) (single_way s rest p (digits ∷ the Dot ∷ digits ∷ the Dot ∷ digits ∷ the Dot ∷ digits ∷ the Comma ∷ []) 8 (dotted_text a b c d (44 ∷ [])) (a ∷ b ∷ c ∷ d ∷ []) at tt (omega arith)
+    ap (meant dotted_of p at) (way_found s rest p (digits ∷ dotted_rest Comma) (dotted_text a b c d (44 ∷ [])) (a ∷ b ∷ c ∷ d ∷ []) at tt
     (dotted_spelt a b c d (omega (arith, small.0)) (omega (arith, small.1)) (omega (arith, small.2)) (omega (arith, small.3))) full)
     ∙ ap (λ (v : Bool). ranged p at (at + length (dotted_text a b c d (44 ∷ []))) (cond v (Some (address_low a b c d)) None)) (in_range a b c d small.0 small.1 small.2 small.3)
     ∙ ap (λ (k : ℕ). got k (at + length (dotted_text a b c d (44 ∷ [])))) (sym D.n_is)
@@ -107,7 +107,7 @@ number_found : (top : ℕ) (m : Mark) → top < 100000 → (s text rest : List �
 number_found top m h s text rest p at n U e =
     let full : drop at s ≡ (decimal n ++ (byte m ∷ [])) ++ rest = e ∙ ap (λ (t : List ℕ). t ++ (byte m ∷ rest)) U.1 ∙ simp append_assoc in
     let size : length text + 1 ≡ length (decimal n ++ (byte m ∷ [])) = let q = ap length U.1 in omega (arith, q, length-append (decimal n) (byte m ∷ [])) in
-    ap (meant (up_to top) p at) (single_way s rest p (digits ∷ the m ∷ []) 2 (decimal n ++ (byte m ∷ [])) (n ∷ []) at tt (omega arith)
+    ap (meant (up_to top) p at) (way_found s rest p (number_way m) (decimal n ++ (byte m ∷ [])) (n ∷ []) at tt
     (record { n = n; left = byte m ∷ []; others = []; small = omega (arith, U.0); text_is = refl; ns_is = refl; rest = record { left = []; text_is = refl; rest = (refl, refl) } }) full)
     ∙ ap (λ (v : Bool). ranged p at (at + length (decimal n ++ (byte m ∷ []))) (cond v (Some n) None)) (le-leb n top U.0)
     ∙ ap (λ (k : ℕ). got n (at + k)) (sym size)
@@ -133,10 +133,10 @@ four_got a b c d n e =
           ((leb-true a 255 p1.0, leb-true b 255 p2.0, leb-true c 255 p3.0, leb-true d 255 p3.1), sym k)
       | inr w ↦
           let f : None ≡ Some n = ap (λ (v : Bool). cond v (Some (address_low a b c d)) None) (sym w) ∙ e in
-          let z : ◌≡◌ {A = ℕ} 0 1 = cc in absurd (omega arith)
+          absurd (cc)
     ]
 
-dotted_ways : (way : List Want) (text ns : List ℕ) (n : ℕ) → In way dotted_form → Spelt way text ns → dotted_of ns ≡ Some n → (body : List ℕ) × (Dotted body n × (text ≡ body ++ (44 ∷ [])))
+dotted_ways : (way : List Want) (text ns : List ℕ) (n : ℕ) → In way ((digits ∷ dotted_rest Comma) ∷ []) → Spelt way text ns → dotted_of ns ≡ Some n → (body : List ℕ) × (Dotted body n × (text ≡ body ++ (44 ∷ [])))
 dotted_ways way text ns n here sp e =
     let a = sp.n in
     let s2 = sp.rest.rest in
@@ -158,8 +158,8 @@ dotted_ways way text ns n (there i) sp e = elim i [ ]
 
 dotted_only : (s : List ℕ) (p : Spot) (at to n : ℕ) → dotted_at s p at ≡ got n to → FieldRead Dotted 44 s at to n
 dotted_only s p at to n h =
-    let m = meant_got dotted_of p at (walk 8 dotted_form s p at) n to h in
-    let st = walk_sound 8 dotted_form s p at m.0 to m.1.0 in
+    let m = meant_got dotted_of p at (way_at (digits ∷ dotted_rest Comma) s p at) n to h in
+    let st = way_sound (digits ∷ dotted_rest Comma) s p at m.0 to m.1.0 in
     let b = dotted_ways st.0 st.1.0 m.0 n st.1.1.0 st.1.1.1 m.1.1 in
     record { text = b.0; right = b.1.0; bytes = st.1.1.2 ∙ ap (λ (t : List ℕ). t ++ drop to s) b.1.1 ∙ append_assoc b.0 (44 ∷ []) (drop to s) }
 
@@ -170,10 +170,10 @@ one_got top a n e =
           let f : Some a ≡ Some n = ap (λ (b : Bool). cond b (Some a) None) (sym w) ∙ e in
           let k = some_same a n f in
           (subst (λ (x : ℕ). x ≤ top) k (leb-true a top w), k)
-      | inr w ↦ let f : None ≡ Some n = ap (λ (b : Bool). cond b (Some a) None) (sym w) ∙ e in let z : ◌≡◌ {A = ℕ} 0 1 = cc in absurd (omega arith)
+      | inr w ↦ let f : None ≡ Some n = ap (λ (b : Bool). cond b (Some a) None) (sym w) ∙ e in absurd (cc)
     ]
 
-number_ways : (top : ℕ) (m : Mark) (way : List Want) (text ns : List ℕ) (n : ℕ) → In way (number_form m) → Spelt way text ns → up_to top ns ≡ Some n → (body : List ℕ) × (UpTo top body n × (text ≡ body ++ (byte m ∷ [])))
+number_ways : (top : ℕ) (m : Mark) (way : List Want) (text ns : List ℕ) (n : ℕ) → In way (number_way m ∷ []) → Spelt way text ns → up_to top ns ≡ Some n → (body : List ℕ) × (UpTo top body n × (text ≡ body ++ (byte m ∷ [])))
 number_ways top m way text ns n here sp e =
     let is : ns ≡ sp.n ∷ [] = sp.ns_is ∙ ap (λ (k : List ℕ). sp.n ∷ k) sp.rest.rest.1 in
     let q = one_got top sp.n n (ap (up_to top) (sym is) ∙ e) in (
@@ -184,8 +184,8 @@ number_ways top m way text ns n (there i) sp e = elim i [ ]
 
 number_only : (top : ℕ) (m : Mark) (s : List ℕ) (p : Spot) (at to n : ℕ) → number_at top m s p at ≡ got n to → FieldRead (UpTo top) (byte m) s at to n
 number_only top m s p at to n h =
-    let r = meant_got (up_to top) p at (walk 2 (number_form m) s p at) n to h in
-    let st = walk_sound 2 (number_form m) s p at r.0 to r.1.0 in
+    let r = meant_got (up_to top) p at (way_at (number_way m) s p at) n to h in
+    let st = way_sound (number_way m) s p at r.0 to r.1.0 in
     let b = number_ways top m st.0 st.1.0 r.0 n st.1.1.0 st.1.1.1 r.1.1 in
     record { text = b.0; right = b.1.0; bytes = st.1.1.2 ∙ ap (λ (t : List ℕ). t ++ drop to s) b.1.1 ∙ append_assoc b.0 (byte m ∷ []) (drop to s) }
 
@@ -229,11 +229,11 @@ header_found s text rest h l at L d inside =
     let size : m6 ≡ at + length text = let q = ap length L.text_is in omega (arith, q, e1, e2, e3, e4, e5) in
     ap header_of read ∙ ap (good h) size
 
-header_fed : (s text rest : List ℕ) (h : Header) (at : ℕ) → HeaderLine text h → drop at s ≡ text ++ rest → at + run not_feed (drop at s) < length s
+header_fed : (s text rest : List ℕ) (h : Header) (at : ℕ) → HeaderLine text h → drop at s ≡ text ++ rest → at + prefix_len not_feed (drop at s) < length s
 header_fed s text rest h at L d =
     let body : List ℕ = L.source ++ (44 ∷ (L.destination ++ (44 ∷ (L.source_port ++ (44 ∷ (L.destination_port ++ (44 ∷ L.protocol))))))) in
     let e : drop at s ≡ body ++ (10 ∷ rest) = d ∙ ap (λ (t : List ℕ). t ++ rest) L.text_is ∙ simp append_assoc in
-    let r = subst (λ (t : List ℕ). run not_feed t ≤ length body) (sym e) (run_before body rest) in
+    let r = subst (λ (t : List ℕ). prefix_len not_feed t ≤ length body) (sym e) (run_before body rest) in
     let n = ap length e ∙ length-append body (10 ∷ rest) in
     let f = length-drop at s in
     omega (arith, r, n, f)
@@ -243,7 +243,7 @@ headers_found = record { fed = header_fed; found = header_found }
 
 -- What is read is a header line.
 header_got : (x : Read (List ℕ)) (h : Header) (to : ℕ) → header_of x ≡ good h to → x ≡ got h.numbers to
-header_got (fault e) h to q = let z : ◌≡◌ {A = ℕ} 0 1 = cc in absurd (omega arith)
+header_got (fault e) h to q = absurd (cc)
 header_got (got ns m) h to q =
     let k : record { numbers = ns } ≡ h = cc in
     let o : m ≡ to = cc in

@@ -1,16 +1,14 @@
-pub mod Runs
 pub mod Taking
 pub mod Walks
 pub mod Blocks
 pub mod Fields
-pub mod Decisions
 pub mod Turns
 pub mod Numbers
 pub mod Ports
 pub mod Sound
 pub mod PortsOnly
 pub mod Singles
-pub mod Addresses
+pub mod AddressesRead
 pub mod Protocols
 pub mod Unfed
 pub mod LinesRead

@@ -15,18 +15,18 @@ Only reads Means =
     (text : List ℕ) × (Means text x × (drop at s ≡ text ++ (44 ∷ drop to s)) × (to ≡ at + (length text + 1)))
 
 pub ranged_got : {A : Type 0} (p : Spot) (at m : ℕ) (o : Option A) (x : A) (to : ℕ) → ranged p at m o ≡ got x to → (o ≡ Some x) × (m ≡ to)
-ranged_got p at m None x to h = let z : ◌≡◌ {A = ℕ} 0 1 = cc in absurd (omega arith)
+ranged_got p at m None x to h = absurd (cc)
 ranged_got p at m (Some y) x to h = (let q : y ≡ x = cc in ap Some q, (cc))
 
 pub meant_got : {A : Type 0} (of : List ℕ → Option A) (p : Spot) (at : ℕ) (r : Read (List ℕ)) (x : A) (to : ℕ) → meant of p at r ≡ got x to → (ns : List ℕ) × ((r ≡ got ns to) × (of ns ≡ Some x))
-meant_got of p at (fault e) x to h = let z : ◌≡◌ {A = ℕ} 0 1 = cc in absurd (omega arith)
+meant_got of p at (fault e) x to h = absurd (cc)
 meant_got of p at (got ns m) x to h = let q = ranged_got p at m (of ns) x to h in (ns, (ap (got ns) q.1, q.0))
 
 one_got : (a : ℕ) (x : Range) → port_of (a ∷ []) ≡ Some x → (a ≤ 65535) × (x ≡ span a a)
 one_got a x e =
     elim (cases_Bool (leb a 65535)) [
       | inl w ↦ let f : Some (span a a) ≡ Some x = ap (λ (b : Bool). cond b (Some (span a a)) None) (sym w) ∙ e in (leb-true a 65535 w, let q : span a a ≡ x = cc in sym q)
-      | inr w ↦ let f : None ≡ Some x = ap (λ (b : Bool). cond b (Some (span a a)) None) (sym w) ∙ e in let z : ◌≡◌ {A = ℕ} 0 1 = cc in absurd (omega arith)
+      | inr w ↦ let f : None ≡ Some x = ap (λ (b : Bool). cond b (Some (span a a)) None) (sym w) ∙ e in absurd (cc)
     ]
 
 two_got : (a b : ℕ) (x : Range) → port_of (a ∷ b ∷ []) ≡ Some x → (a ≤ b) × (b ≤ 65535) × (x ≡ span a b)
@@ -36,7 +36,7 @@ two_got a b x e =
           let f : Some (span a b) ≡ Some x = ap (λ (v : Bool). cond v (Some (span a b)) None) (sym w) ∙ e in
           let q = and_parts (leb b 65535) (leb a b) w in
           (leb-true a b q.1, leb-true b 65535 q.0, let r : span a b ≡ x = cc in sym r)
-      | inr w ↦ let f : None ≡ Some x = ap (λ (v : Bool). cond v (Some (span a b)) None) (sym w) ∙ e in let z : ◌≡◌ {A = ℕ} 0 1 = cc in absurd (omega arith)
+      | inr w ↦ let f : None ≡ Some x = ap (λ (v : Bool). cond v (Some (span a b)) None) (sym w) ∙ e in absurd (cc)
     ]
 
 abbrev Body : List ℕ → Range → Type 0

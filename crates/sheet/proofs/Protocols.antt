@@ -68,7 +68,7 @@ one_got : (a : ℕ) (x : Range) → protocol_of (a ∷ []) ≡ Some x → (a ≤
 one_got a x e =
     elim (cases_Bool (leb a 255)) [
       | inl w ↦ let f : Some (span a a) ≡ Some x = ap (λ (b : Bool). cond b (Some (span a a)) None) (sym w) ∙ e in (leb-true a 255 w, let q : span a a ≡ x = cc in sym q)
-      | inr w ↦ let f : None ≡ Some x = ap (λ (b : Bool). cond b (Some (span a a)) None) (sym w) ∙ e in let z : ◌≡◌ {A = ℕ} 0 1 = cc in absurd (omega arith)
+      | inr w ↦ let f : None ≡ Some x = ap (λ (b : Bool). cond b (Some (span a a)) None) (sym w) ∙ e in absurd (cc)
     ]
 
 abbrev Body : List ℕ → Range → Type 0

@@ -6,7 +6,7 @@ use Rattle.sheet.specs.declared.tokens.Mark.{Mark}
 use Rattle.sheet.specs.declared.tokens.Mark.TheVariants.{Dot, Slash, Dash, Star, Comma, LineFeed}
 use Rattle.faults.specs.declared.Spot.{Spot}
 use Rattle.sheet.specs.Tokens.{is_digit, token, number, mark}
-use Rattle.sheet.specs.Forms.{Want, digits, the, name, byte, fits, got, noted, went, walk}
+use Rattle.sheet.specs.Forms.{Want, digits, the, name, byte, fits, got, noted, went, walk, way_at}
 use Rattle.sheet.proofs.Numbers.{past}
 use Rattle.sheet.proofs.Ports.{number_token}
 use Rattle.sheet.proofs.Sound.{Spelt}
@@ -94,3 +94,7 @@ module _ (s rest : List ℕ) (p : Spot) where
   single_way (digits ∷ digits ∷ ws) k text ns at neat l sp d = absurd neat
   single_way (digits ∷ name w ∷ ws) k text ns at neat l sp d = absurd neat
   single_way (name w ∷ ws) k text ns at neat l sp d = absurd neat
+
+  pub way_found : (way : List Want) (text ns : List ℕ) (at : ℕ) → Neat way → Spelt way text ns → drop at s ≡ text ++ rest → way_at way s p at ≡ got ns (at + length text)
+  unfolding way_at
+  way_found way text ns at neat sp d = single_way way (length way) text ns at neat (omega arith) sp d

@@ -1,5 +1,5 @@
 -- What was read is what the bytes say: one proof for all forms.
-use Rattle.std.proofs.Common.{◌≡◌, ℕ, zero, suc, ◌+◌, ◌<◌, Bool, true, false, cond, not, ◌||◌, eqb, leb, List, [], ◌∷◌, ◌++◌, length, get_or, take, drop, Some, None, decimal, Option, sym, refl, ap, ◌∙◌, subst, inl, inr, append_assoc, append-nil, arith, length-append, rules}
+use Rattle.std.proofs.Common.{◌≡◌, ℕ, zero, suc, ◌+◌, ◌<◌, Bool, true, false, cond, not, ◌||◌, eqb, leb, List, [], ◌∷◌, ◌++◌, length, get_or, take, drop, Some, None, decimal, Option, sym, refl, ap, ◌∙◌, subst, inl, inr, append_assoc, append-nil, arith, length-append, rules, one-add}
 use Rattle.std.specs.Str.Parse.{AllDigits, digits_value}
 use Rattle.std.proofs.lemmas.Bool.{cases_Bool, eqb-true, and_parts, or_cases, leb-true, not-true}
 use Rattle.std.proofs.lemmas.Bool.Decides.{nat_tests}
@@ -8,12 +8,12 @@ use Rattle.std.proofs.lemmas.Str.Parse.{IsNumeralModel, numerals_by_value, digit
 use Rattle.std.proofs.lemmas.Fmt.{decimal-digits_value}
 use Rattle.sheet.specs.declared.tokens.Mark.{Mark}
 use Rattle.sheet.specs.declared.tokens.Mark.TheVariants.{Dot, Slash, Dash, Star, Comma, LineFeed}
-use Rattle.sheet.specs.declared.tokens.Begins.{Begins}
-use Rattle.sheet.specs.declared.tokens.Begins.TheVariants.{Number, Word, One, Nothing}
 use Rattle.faults.specs.declared.Spot.{Spot}
-use Rattle.sheet.specs.Tokens.{run, is_digit, is_letter, begins, begun, token, Tok, number, word, mark, size, well_made, digits_of, letters_of}
-use Rattle.sheet.specs.Forms.{Want, digits, the, name, byte, same, named, fits, figures, after, ended, Read, got, fault, noted, went, turn, walk}
-use Rattle.sheet.proofs.Taking.{digit_begins, run_some, length_run, digits_digits}
+use Rattle.std.specs.List.{prefix_len}
+use Rattle.std.proofs.lemmas.List.Folds.{length-prefix_len}
+use Rattle.sheet.specs.Tokens.{is_digit, is_letter, mark_of, as_mark, number_if_made, token, Tok, number, word, mark, size, well_made, digits_of, letters_of}
+use Rattle.sheet.specs.Forms.{Want, digits, the, name, byte, same, named, fits, figures, after, ended, Read, got, fault, noted, went, turn, walk, way_at, position}
+use Rattle.sheet.proofs.Taking.{token_number, token_word, token_other, digits_digits}
 
 own : IsNumeralModel (AllDigits 10) (digits_value 10)
 own = numerals_by_value (AllDigits 10) (search rules)
@@ -29,42 +29,64 @@ split zero l = refl
 split (suc n) [] = refl
 split (suc n) (x ∷ xs) = ap (λ (t : List ℕ). x ∷ t) (split n xs)
 
-begun_number : (g : Begins) (bs ds : List ℕ) → begun g bs ≡ Some (number ds) → (g ≡ Number) × (digits_of bs ≡ ds) × (well_made (digits_of bs) ≡ true)
-begun_number Number bs ds e =
-    elim (cases_Bool (well_made (digits_of bs))) [
-      | inl w ↦ let f : Some (number (digits_of bs)) ≡ Some (number ds) = ap (λ (v : Bool). cond v (Some (number (digits_of bs))) None) (sym w) ∙ e in (refl, (cc), w)
-      | inr w ↦ let f : None ≡ Some (number ds) = ap (λ (v : Bool). cond v (Some (number (digits_of bs))) None) (sym w) ∙ e in
-          let z : ◌≡◌ {A = ℕ} 0 1 = cc in absurd (omega arith)
-    ]
-begun_number Word bs ds e = let z : ◌≡◌ {A = ℕ} 0 1 = cc in absurd (omega arith)
-begun_number (One m) bs ds e = let z : ◌≡◌ {A = ℕ} 0 1 = cc in absurd (omega arith)
-begun_number Nothing bs ds e = let z : ◌≡◌ {A = ℕ} 0 1 = cc in absurd (omega arith)
+never : {A : Type 0} → false ≡ true → A
+never e = absurd (cc)
 
-begun_word : (g : Begins) (bs ls : List ℕ) → begun g bs ≡ Some (word ls) → letters_of bs ≡ ls
-begun_word Number bs ls e =
-    elim (cases_Bool (well_made (digits_of bs))) [
-      | inl w ↦ let f : Some (number (digits_of bs)) ≡ Some (word ls) = ap (λ (v : Bool). cond v (Some (number (digits_of bs))) None) (sym w) ∙ e in
-          let z : ◌≡◌ {A = ℕ} 0 1 = cc in absurd (omega arith)
-      | inr w ↦ let f : None ≡ Some (word ls) = ap (λ (v : Bool). cond v (Some (number (digits_of bs))) None) (sym w) ∙ e in
-          let z : ◌≡◌ {A = ℕ} 0 1 = cc in absurd (omega arith)
+-- What a token says of the bytes that it begins.
+made_number : (bs ds : List ℕ) → number_if_made bs ≡ Some (number ds) → (bs ≡ ds) × (well_made ds ≡ true)
+made_number bs ds e =
+    elim (cases_Bool (well_made bs)) [
+      | inl w ↦
+          let f : Some (number bs) ≡ Some (number ds) = ap (λ (v : Bool). cond v (Some (number bs)) None) (sym w) ∙ e in
+          let q : bs ≡ ds = cc in (q, subst (λ (x : List ℕ). well_made x ≡ true) q w)
+      | inr w ↦ let f : None ≡ Some (number ds) = ap (λ (v : Bool). cond v (Some (number bs)) None) (sym w) ∙ e in absurd (cc)
     ]
-begun_word Word bs ls e = cc
-begun_word (One m) bs ls e = let z : ◌≡◌ {A = ℕ} 0 1 = cc in absurd (omega arith)
-begun_word Nothing bs ls e = let z : ◌≡◌ {A = ℕ} 0 1 = cc in absurd (omega arith)
 
-begun_mark : (g : Begins) (bs : List ℕ) (m : Mark) → begun g bs ≡ Some (mark m) → g ≡ One m
-begun_mark Number bs m e =
-    elim (cases_Bool (well_made (digits_of bs))) [
-      | inl w ↦ let f : Some (number (digits_of bs)) ≡ Some (mark m) = ap (λ (v : Bool). cond v (Some (number (digits_of bs))) None) (sym w) ∙ e in
-          let z : ◌≡◌ {A = ℕ} 0 1 = cc in absurd (omega arith)
-      | inr w ↦ let f : None ≡ Some (mark m) = ap (λ (v : Bool). cond v (Some (number (digits_of bs))) None) (sym w) ∙ e in
-          let z : ◌≡◌ {A = ℕ} 0 1 = cc in absurd (omega arith)
+made_other : {A : Type 0} (bs : List ℕ) (t : Tok) → ((ds : List ℕ) → number ds ≡ t → ⊥) → number_if_made bs ≡ Some t → A
+made_other bs t other e =
+    elim (cases_Bool (well_made bs)) [
+      | inl w ↦ let f : Some (number bs) ≡ Some t = ap (λ (v : Bool). cond v (Some (number bs)) None) (sym w) ∙ e in absurd (other bs (cc))
+      | inr w ↦ let f : None ≡ Some t = ap (λ (v : Bool). cond v (Some (number bs)) None) (sym w) ∙ e in absurd (cc)
     ]
-begun_mark Word bs m e = let z : ◌≡◌ {A = ℕ} 0 1 = cc in absurd (omega arith)
-begun_mark (One n) bs m e = cc
-begun_mark Nothing bs m e = let z : ◌≡◌ {A = ℕ} 0 1 = cc in absurd (omega arith)
 
-mark_byte : (b : ℕ) (m : Mark) → begins b ≡ One m → b ≡ byte m
+as_mark_is : (o : Option Mark) (t : Tok) → as_mark o ≡ Some t → (m : Mark) × ((o ≡ Some m) × (t ≡ mark m))
+as_mark_is None t e = absurd (cc)
+as_mark_is (Some m) t e = (m, (refl, (cc)))
+
+token_is_number : (bs ds : List ℕ) → token bs ≡ Some (number ds) → (is_digit (get_or bs 0 0) ≡ true) × (digits_of bs ≡ ds) × (well_made ds ≡ true)
+token_is_number bs ds e =
+    elim (cases_Bool (is_digit (get_or bs 0 0))) [
+      | inl d ↦ let q = made_number (digits_of bs) ds (sym (token_number bs d) ∙ e) in (d, q.0, q.1)
+      | inr d ↦
+          elim (cases_Bool (is_letter (get_or bs 0 0))) [
+            | inl l ↦ let f = sym (token_word bs d l) ∙ e in absurd (cc)
+            | inr l ↦ let q = as_mark_is (mark_of (get_or bs 0 0)) (number ds) (sym (token_other bs d l) ∙ e) in let f = q.1.1 in absurd (cc)
+          ]
+    ]
+
+token_is_word : (bs ls : List ℕ) → token bs ≡ Some (word ls) → letters_of bs ≡ ls
+token_is_word bs ls e =
+    elim (cases_Bool (is_digit (get_or bs 0 0))) [
+      | inl d ↦ made_other (digits_of bs) (word ls) (λ ds f. cc) (sym (token_number bs d) ∙ e)
+      | inr d ↦
+          elim (cases_Bool (is_letter (get_or bs 0 0))) [
+            | inl l ↦ let f = sym (token_word bs d l) ∙ e in cc
+            | inr l ↦ let q = as_mark_is (mark_of (get_or bs 0 0)) (word ls) (sym (token_other bs d l) ∙ e) in let f = q.1.1 in absurd (cc)
+          ]
+    ]
+
+token_is_mark : (bs : List ℕ) (m : Mark) → token bs ≡ Some (mark m) → mark_of (get_or bs 0 0) ≡ Some m
+token_is_mark bs m e =
+    elim (cases_Bool (is_digit (get_or bs 0 0))) [
+      | inl d ↦ made_other (digits_of bs) (mark m) (λ ds f. cc) (sym (token_number bs d) ∙ e)
+      | inr d ↦
+          elim (cases_Bool (is_letter (get_or bs 0 0))) [
+            | inl l ↦ let f = sym (token_word bs d l) ∙ e in absurd (cc)
+            | inr l ↦ let q = as_mark_is (mark_of (get_or bs 0 0)) (mark m) (sym (token_other bs d l) ∙ e) in let f = q.1.1 in q.1.0 ∙ cc
+          ]
+    ]
+
+mark_byte : (b : ℕ) (m : Mark) → mark_of b ≡ Some m → b ≡ byte m
 mark_byte b Dot e = grind (arith, nat_tests)
 mark_byte b Slash e = grind (arith, nat_tests)
 mark_byte b Dash e = grind (arith, nat_tests)
@@ -86,8 +108,8 @@ first (x ∷ xs) b h e = ap (λ (y : ℕ). y ∷ xs) e
 
 same_is : (xs ys : List ℕ) → same xs ys ≡ true → xs ≡ ys
 same_is [] [] e = refl
-same_is [] (y ∷ ys) e = let z : ◌≡◌ {A = ℕ} 0 1 = cc in absurd (omega arith)
-same_is (x ∷ xs) [] e = let z : ◌≡◌ {A = ℕ} 0 1 = cc in absurd (omega arith)
+same_is [] (y ∷ ys) e = absurd (cc)
+same_is (x ∷ xs) [] e = absurd (cc)
 same_is (x ∷ xs) (y ∷ ys) e =
     let p = and_parts (eqb x y) (same xs ys) e in
     ap (λ (a : ℕ). a ∷ xs) (eqb-true x y p.0) ∙ ap (λ (t : List ℕ). y ∷ t) (same_is xs ys p.1)
@@ -102,49 +124,43 @@ lead ds w e =
       | inr h ↦ absurd (Rattle.std.proofs.lemmas.Bool.eqb-false (get_or ds 0 0) 48 (not-true (eqb (get_or ds 0 0) 48) h) e)
     ]
 
-digits_some : (bs : List ℕ) → begins (get_or bs 0 0) ≡ Number → 0 < length (digits_of bs)
-digits_some [] e = let z : ◌≡◌ {A = ℕ} 0 1 = cc in absurd (omega arith)
-digits_some (b ∷ bs) e = rw (length_run is_digit (b ∷ bs)) (run_some is_digit (b ∷ bs) 0 (omega arith) (digit_begins b e))
+digits_some : (bs : List ℕ) → is_digit (get_or bs 0 0) ≡ true → 0 < length (digits_of bs)
+digits_some [] e = never e
+digits_some (b ∷ bs) e = rw (e, one-add) (omega arith)
 
 says_number : (bs ds : List ℕ) → token bs ≡ Some (number ds) → TokenSays digits (number ds) bs
-unfolding token
 says_number bs ds e =
-    let q = begun_number (begins (get_or bs 0 0)) bs ds e in
-    let w = subst (λ (x : List ℕ). well_made x ≡ true) q.1 q.2 in
+    let q = token_is_number bs ds e in
+    let w = q.2 in
     let some = subst (λ (x : List ℕ). 0 < length x) q.1 (digits_some bs q.0) in
     let dd = subst (AllDigits 10) q.1 (digits_digits bs) in
     let five = leb-true (length ds) 5 (and_parts (leb (length ds) 5) (eqb (length ds) 1 || not (eqb (get_or ds 0 0) 48)) w).0 in
     let small = digits_value_short own ds 5 dd five in
-    let len : length ds ≡ run is_digit bs = sym (ap length q.1) ∙ length_run is_digit bs in (
+    let len : length ds ≡ prefix_len is_digit bs = sym (ap length q.1) ∙ length-prefix_len is_digit bs in (
       ds,
       (
         (digits_value 10 ds, (small, sym (decimal-digits_value own ds dd some (lead ds w) (omega (arith, small))), refl)),
-        split (run is_digit bs) bs ∙ ap (λ (t : List ℕ). t ++ drop (run is_digit bs) bs) q.1 ∙ ap (λ (k : ℕ). ds ++ drop k bs) (sym len),
+        split (prefix_len is_digit bs) bs ∙ ap (λ (t : List ℕ). t ++ drop (prefix_len is_digit bs) bs) q.1 ∙ ap (λ (k : ℕ). ds ++ drop k bs) (sym len),
         refl,
       ),
     )
 
 says_mark : (bs : List ℕ) (m n : Mark) → token bs ≡ Some (mark n) → eqb (byte m) (byte n) ≡ true → TokenSays (the m) (mark n) bs
-unfolding token
 says_mark bs m n e f =
-    let b = mark_byte (get_or bs 0 0) n (begun_mark (begins (get_or bs 0 0)) bs n e) in
+    let b = mark_byte (get_or bs 0 0) n (token_is_mark bs n e) in
     (byte m ∷ [], ((refl, refl), first bs (byte m) (byte_some m) (b ∙ sym (eqb-true (byte m) (byte n) f)), refl))
 
 says_word : (bs w ls : List ℕ) → token bs ≡ Some (word ls) → same w ls ≡ true → TokenSays (name w) (word ls) bs
-unfolding token
 says_word bs w ls e f =
-    let q = begun_word (begins (get_or bs 0 0)) bs ls e in
-    let len : length ls ≡ run is_letter bs = sym (ap length q) ∙ length_run is_letter bs in (
+    let q = token_is_word bs ls e in
+    let len : length ls ≡ prefix_len is_letter bs = sym (ap length q) ∙ length-prefix_len is_letter bs in (
       ls,
       (
         (sym (same_is w ls f), ap (λ (t : List ℕ). named t ∷ []) (sym (same_is w ls f))),
-        split (run is_letter bs) bs ∙ ap (λ (t : List ℕ). t ++ drop (run is_letter bs) bs) q ∙ ap (λ (k : ℕ). ls ++ drop k bs) (sym len),
+        split (prefix_len is_letter bs) bs ∙ ap (λ (t : List ℕ). t ++ drop (prefix_len is_letter bs) bs) q ∙ ap (λ (k : ℕ). ls ++ drop k bs) (sym len),
         refl,
       ),
     )
-
-never : {A : Type 0} → false ≡ true → A
-never e = let z : ◌≡◌ {A = ℕ} 0 1 = cc in absurd (omega arith)
 
 token_says : (w : Want) (t : Tok) (bs : List ℕ) → token bs ≡ Some t → fits w t ≡ true → TokenSays w t bs
 token_says digits (number ds) bs e f = says_number bs ds e
@@ -221,7 +237,7 @@ abbrev pub Stands : List (List Want) → List ℕ → ℕ → List ℕ → ℕ �
 Stands ways s at ns to = (way : List Want) × ((text : List ℕ) × (In way ways × Spelt way text ns × (drop at s ≡ text ++ drop to s) × (to ≡ at + length text)))
 
 fault_got : {A : Type 0} (e : Rattle.faults.specs.declared.FieldFault.FieldFault) (ns : List ℕ) (to : ℕ) → fault e ≡ got ns to → A
-fault_got e ns to h = let z : ◌≡◌ {A = ℕ} 0 1 = cc in absurd (omega arith)
+fault_got e ns to h = absurd (cc)
 
 noted_got : (ns : List ℕ) (x : Read (List ℕ)) (ls : List ℕ) (to : ℕ) → noted ns x ≡ got ls to → (ms : List ℕ) × ((x ≡ got ms to) × (ls ≡ ns ++ ms))
 noted_got ns (fault e) ls to h = fault_got e ls to h
@@ -247,7 +263,7 @@ one_first ways s at t v u ms to e i sp d l =
 went_sound : (p : Spot) (f : List (List Want) → ℕ → Read (List ℕ)) (ways : List (List Want)) (s : List ℕ) (at : ℕ) (t : Tok) (ns : List ℕ) (to : ℕ) → token (drop at s) ≡ Some t →
     ((vs : List (List Want)) (a : ℕ) (ms : List ℕ) → f vs a ≡ got ms to → Stands vs s a ms to) →
     (vs : List (List Want)) → after t ways ≡ vs → went p f t at vs ≡ got ns to → Stands ways s at ns to
-went_sound p f ways s at t ns to e rec [] a h = fault_got (Rattle.faults.specs.declared.FieldFault.TheVariants.Misfit at p) ns to h
+went_sound p f ways s at t ns to e rec [] a h = fault_got (Rattle.faults.specs.declared.FieldFault.TheVariants.Misfit (position at p)) ns to h
 went_sound p f ways s at t ns to e rec (v ∷ vs) a h =
     elim (cases_Bool (ended (v ∷ vs))) [
       | inl w ↦
@@ -267,10 +283,14 @@ went_sound p f ways s at t ns to e rec (v ∷ vs) a h =
 turn_sound : (p : Spot) (f : List (List Want) → ℕ → Read (List ℕ)) (ways : List (List Want)) (s : List ℕ) (at : ℕ) (ns : List ℕ) (to : ℕ) →
     ((vs : List (List Want)) (a : ℕ) (ms : List ℕ) → f vs a ≡ got ms to → Stands vs s a ms to) →
     (o : Option Tok) → token (drop at s) ≡ o → turn p f ways at o ≡ got ns to → Stands ways s at ns to
-turn_sound p f ways s at ns to rec None e h = fault_got (Rattle.faults.specs.declared.FieldFault.TheVariants.IllMade (record { at = at; spot = p })) ns to h
+turn_sound p f ways s at ns to rec None e h = fault_got (Rattle.faults.specs.declared.FieldFault.TheVariants.IllMade (record { position = position at p })) ns to h
 turn_sound p f ways s at ns to rec (Some t) e h = went_sound p f ways s at t ns to e rec (after t ways) refl h
 
 pub walk_sound : (k : ℕ) (ways : List (List Want)) (s : List ℕ) (p : Spot) (at : ℕ) (ns : List ℕ) (to : ℕ) → walk k ways s p at ≡ got ns to → Stands ways s at ns to
-walk_sound zero ways s p at ns to h = fault_got (Rattle.faults.specs.declared.FieldFault.TheVariants.Misfit at p) ns to h
+walk_sound zero ways s p at ns to h = fault_got (Rattle.faults.specs.declared.FieldFault.TheVariants.Misfit (position at p)) ns to h
 walk_sound (suc k) ways s p at ns to h =
     turn_sound p (λ vs a. walk k vs s p a) ways s at ns to (λ vs a ms. walk_sound k vs s p a ms to) (token (drop at s)) refl h
+
+pub way_sound : (way : List Want) (s : List ℕ) (p : Spot) (at : ℕ) (ns : List ℕ) (to : ℕ) → way_at way s p at ≡ got ns to → Stands (way ∷ []) s at ns to
+unfolding way_at
+way_sound way s p at ns to h = walk_sound (length way) (way ∷ []) s p at ns to h

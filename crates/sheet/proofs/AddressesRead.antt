@@ -153,7 +153,7 @@ block_got a b c d n x e =
           (block_is a b c d n w, let q : span (address_low a b c d) (top a b c d n) ≡ x = cc in sym q)
       | inr w ↦
           let f : None ≡ Some x = ap (λ (v : Bool). cond v (Some (span (address_low a b c d) (top a b c d n))) None) (sym w) ∙ e in
-          let z : ◌≡◌ {A = ℕ} 0 1 = cc in absurd (omega arith)
+          absurd (cc)
     ]
 
 abbrev Body : List ℕ → Range → Type 0
