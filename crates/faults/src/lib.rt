@@ -6,6 +6,9 @@ ghost use Rattle.faults.specs.declared.FieldFault.TheVariants.{IllMade};
 ghost use Rattle.faults.specs.declared.SheetFault.TheVariants.{Field};
 ghost use Rattle.faults.specs.Faults.{tells_here, told};
 
+// How many bytes a sheet has at most.
+pub const LONGEST_SHEET: usize = 8192;
+
 // A line and a field, both counted from 1.
 #[derive(Clone, Copy, PartialEq, Eq, Debug)]
 pub struct Spot {
@@ -111,7 +114,7 @@ impl SheetFault {
         match self {
             SheetFault::TooLong => Told {
                 number: 1,
-                byte: 8192,
+                byte: LONGEST_SHEET,
                 line: 0,
                 field: 0,
                 layer: Layer::Sheet,

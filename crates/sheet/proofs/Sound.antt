@@ -13,7 +13,7 @@ use Rattle.std.specs.List.{prefix_len}
 use Rattle.std.proofs.lemmas.List.Folds.{length-prefix_len}
 use Rattle.sheet.specs.Tokens.{is_digit, is_letter, mark_of, as_mark, number_if_made, token, Tok, number, word, mark, size, well_made, digits_of, letters_of}
 use Rattle.sheet.specs.Forms.{Want, digits, the, name, byte, same, named, fits, figures, after, ended, Read, got, fault, noted, went, turn, walk, way_at, position}
-use Rattle.sheet.proofs.Taking.{token_number, token_word, token_other, digits_digits}
+use Rattle.sheet.proofs.Taking.{token_number, token_word, token_other, all_digits, run_of_digits}
 
 own : IsNumeralModel (AllDigits 10) (digits_value 10)
 own = numerals_by_value (AllDigits 10) (search rules)
@@ -133,7 +133,7 @@ says_number bs ds e =
     let q = token_is_number bs ds e in
     let w = q.2 in
     let some = subst (λ (x : List ℕ). 0 < length x) q.1 (digits_some bs q.0) in
-    let dd = subst (AllDigits 10) q.1 (digits_digits bs) in
+    let dd = subst (AllDigits 10) q.1 (all_digits (digits_of bs) (run_of_digits bs)) in
     let five = leb-true (length ds) 5 (and_parts (leb (length ds) 5) (eqb (length ds) 1 || not (eqb (get_or ds 0 0) 48)) w).0 in
     let small = digits_value_short own ds 5 dd five in
     let len : length ds ≡ prefix_len is_digit bs = sym (ap length q.1) ∙ length-prefix_len is_digit bs in (

@@ -1,26 +1,29 @@
 -- What is known of the token that begins some bytes.
-use Rattle.std.proofs.Common.{◌≡◌, ℕ, zero, suc, ◌-◌, ◌^◌, ◌<◌, ◌≤◌, Bool, true, false, cond, List, [], ◌∷◌, length, get_or, take, Some, None, Option, inl, inr, sym, refl, ap, ◌∙◌, zero-lt-suc, arith, length-take, one-add}
+use Rattle.std.proofs.Common.{◌≡◌, ℕ, zero, suc, ◌+◌, ◌*◌, ◌-◌, ◌^◌, ◌<◌, ◌≤◌, Bool, true, false, cond, List, [], ◌∷◌, length, get_or, take, Some, None, Option, inl, inr, sym, refl, ap, ◌∙◌, zero-lt-suc, arith, length-take, one-add}
 use Rattle.std.proofs.Math.Nat.{pow-le-pow_right}
+use Rattle.std.specs.List.{list_all, take_while}
 use Rattle.std.specs.Str.Parse.{AllDigits, digits_value}
 use Rattle.std.specs.Char.{digit_value}
-use Rattle.std.proofs.lemmas.Int.Digits.{digits_value-lt}
+use Rattle.std.proofs.lemmas.Int.Digits.{digits_value-lt, digits_value_more}
+use Rattle.std.proofs.lemmas.List.Folds.{list_all_at}
 use Rattle.std.proofs.lemmas.List.Sums.{prefix_len-le-length}
 use Rattle.std.proofs.lemmas.List.Folds.{length-prefix_len}
-use Rattle.std.proofs.lemmas.Bool.{cases_Bool}
+use Rattle.std.proofs.lemmas.Bool.{cases_Bool, and_parts}
 use Rattle.std.proofs.lemmas.Bool.Decides.{nat_tests}
 use Rattle.sheet.specs.declared.tokens.Mark.{Mark}
 use Rattle.sheet.specs.Tokens.{is_digit, is_letter, mark_of, as_mark, number_if_made, token, Tok, number, word, mark, size, well_made, digits_of, letters_of}
 
+-- A run of digits is made of digits.
+pub run_of_digits : (bs : List ℕ) → list_all is_digit (take_while is_digit bs) ≡ true
+run_of_digits [] = refl
+run_of_digits (b ∷ bs) = elim (cases_Bool (is_digit b)) [ inl e ↦ rw (e, one-add, e) (run_of_digits bs) | inr e ↦ rw e refl ]
+
 digit_value_small : (b : ℕ) → is_digit b ≡ true → digit_value b < 10
 digit_value_small b e = grind (arith, nat_tests)
 
-pub digits_digits : (bs : List ℕ) → AllDigits 10 (digits_of bs)
-digits_digits [] = tt
-digits_digits (b ∷ bs) =
-    elim (cases_Bool (is_digit b)) [
-      | inl e ↦ rw (e, one-add) (digit_value_small b e, digits_digits bs)
-      | inr e ↦ rw e tt
-    ]
+pub all_digits : (ds : List ℕ) → list_all is_digit ds ≡ true → AllDigits 10 ds
+all_digits [] e = tt
+all_digits (d ∷ ds) e = let q = and_parts (is_digit d) (list_all is_digit ds) e in (digit_value_small d q.0, all_digits ds q.1)
 
 -- The token by its first byte.
 pub token_number : (bs : List ℕ) → is_digit (get_or bs 0 0) ≡ true → token bs ≡ number_if_made (digits_of bs)
@@ -66,24 +69,32 @@ size_fits (b ∷ bs) t e =
           ]
     ]
 
--- The number that digits write, from the front on.
 pub digit_is : (b : ℕ) → digit_value b < 10 → (48 ≤ b) × (digit_value b ≡ b - 48)
 digit_is b h = grind (arith, nat_tests)
 
-digits_take : (ds : List ℕ) (i : ℕ) → AllDigits 10 ds → AllDigits 10 (take i ds)
-digits_take [] zero h = tt
-digits_take [] (suc i) h = tt
-digits_take (d ∷ ds) zero h = tt
-digits_take (d ∷ ds) (suc i) h = (h.0, digits_take ds i h.1)
+digit_at : (ds : List ℕ) (i : ℕ) → list_all is_digit ds ≡ true → i < length ds → is_digit (get_or ds i 0) ≡ true
+digit_at ds i all inside =
+    elim (cases_Bool (is_digit (get_or ds i 0))) [ inl e ↦ e | inr e ↦ let f = list_all_at is_digit ds i 0 inside e in absurd (cc (all, f)) ]
 
-pub digit_of : (ds : List ℕ) (i : ℕ) → AllDigits 10 ds → i < length ds → digit_value (get_or ds i 0) < 10
-digit_of [] i h l = absurd (omega arith)
-digit_of (d ∷ ds) zero h l = h.0
-digit_of (d ∷ ds) (suc i) h l = digit_of ds i h.1 (omega arith)
+-- One more digit of a number.
+pub record Step (ds : List ℕ) (i : ℕ) : Type 0 where
+  pub least : 48 ≤ get_or ds i 0
+  pub most : get_or ds i 0 ≤ 57
+  pub small : digits_value 10 (take i ds) < 10000
+  pub next : digits_value 10 (take (i + 1) ds) ≡ 10 * digits_value 10 (take i ds) + (get_or ds i 0 - 48)
 
-pub partial : (ds : List ℕ) (i : ℕ) → length ds ≤ 5 → AllDigits 10 ds → i < length ds → digits_value 10 (take i ds) < 10000
-partial ds i five h l =
-    let b = digits_value-lt 10 (take i ds) (digits_take ds i h) in
+take_digits : (ds : List ℕ) (i : ℕ) → AllDigits 10 ds → AllDigits 10 (take i ds)
+take_digits [] zero h = tt
+take_digits [] (suc i) h = tt
+take_digits (d ∷ ds) zero h = tt
+take_digits (d ∷ ds) (suc i) h = (h.0, take_digits ds i h.1)
+
+pub number_step : (ds : List ℕ) (i : ℕ) → length ds ≤ 5 → list_all is_digit ds ≡ true → i < length ds → Step ds i
+number_step ds i few all inside =
+    let b : ℕ = get_or ds i 0 in
+    let d : is_digit b ≡ true = digit_at ds i all inside in
+    let bounds : (48 ≤ b) × (b ≤ 57) × (digit_value b ≡ b - 48) = grind (arith, nat_tests) in
+    let lt = digits_value-lt 10 (take i ds) (take_digits ds i (all_digits ds all)) in
     let e : length (take i ds) ≡ i = simp length-take (omega arith) in
     let m : 10 ^ i ≤ 10 ^ 4 = let k : i ≤ 4 = omega arith in pow-le-pow_right (zero-lt-suc 9) k in
-    omega (arith, rw e at b)
+    record { least = bounds.0; most = bounds.1; small = omega (arith, rw e at lt); next = omega (arith, bounds.2, digits_value_more 10 ds i inside) }

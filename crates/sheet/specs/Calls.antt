@@ -1,6 +1,6 @@
 -- What the calls of a reader answer.
 use Rattle.std.specs.Prelude.{◌≡◌, ℕ, ◌+◌, ◌≤◌, List, [], ◌∷◌, length, drop, Some, None, Ok, Err, Option, Result}
-use Rattle.std.specs.Str.Parse.{AllDigits}
+use Rattle.sheet.specs.declared.tokens.Digits.{Digits}
 use Rattle.sheet.specs.declared.tokens.Token.{Token}
 use Rattle.sheet.specs.declared.tokens.Token.TheVariants.{Number, Word, Mark}
 use Rattle.sheet.specs.declared.reader.Reader.{Reader}
@@ -13,26 +13,18 @@ use Rattle.sheet.specs.Forms.{position, Read, got, fault}
 use Rattle.sheet.specs.Lines.{spot}
 use Rattle.sheet.specs.Sheets.{Lined, good, bad}
 
--- A token of the sheet by its bytes.
+-- A number, and a token, by their bytes.
+abbrev pub written : Digits → Tok
+written ds = number ds.bytes.now
+
 abbrev pub seen : Token → Tok
-seen (Number ds) = number ds.now
+seen (Number ds) = written ds
 seen (Word ls) = word ls.now
 seen (Mark m) = mark m
 
--- What is known of the bytes of a number.
-abbrev pub Made : Tok → Type 0
-Made (number ds) = (length ds ≤ 5) × AllDigits 10 ds
-Made (word ls) = Unit {0}
-Made (mark m) = Unit {0}
-
--- The token that begins the bytes.
-abbrev pub Begins : List ℕ → Option Token → Type 0
-Begins bs (Some t) = (token bs ≡ Some (seen t)) × Made (seen t)
-Begins bs None = token bs ≡ None
-
 -- A token was taken at a byte, and the reader stands at `end`.
 abbrev pub Taken : List ℕ → Spot → ℕ → ℕ → Result Token TokenFault → Type 0
-Taken s p at end (Ok t) = (token (drop at s) ≡ Some (seen t)) × (end ≡ at + size (seen t)) × Made (seen t)
+Taken s p at end (Ok t) = (token (drop at s) ≡ Some (seen t)) × (end ≡ at + size (seen t))
 Taken s p at end (Err f) = (token (drop at s) ≡ None) × (f ≡ record { position = position at p })
 
 -- The reader took a token, and stands in the same sheet, line and field.

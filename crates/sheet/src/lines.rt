@@ -4,10 +4,7 @@ ghost use Rattle.sheet.specs.Calls.{InLine, line_answer};
 ghost use Rattle.sheet.specs.Sheets.{Lined, lines_at, sheet_says, Answers};
 
 use crate::reader::Reader;
-use faults::SheetFault;
-
-// How many bytes a sheet has at most.
-pub const LONGEST_SHEET: usize = 8192;
+use faults::{LONGEST_SHEET, SheetFault};
 
 // How many lines a sheet has at most.
 pub const MOST_LINES: usize = 64;
@@ -29,6 +26,7 @@ pub trait LineForm {
 fn read_lines<F: LineForm>(sheet: &[u8], places: &mut [F::Entry]) -> Result<usize, SheetFault>
     ensures { Answers (lines_at F.says sheet.now (min (length places.old) 64) 1 0) places.old places.new result }
 {
+    // By index: after writes through `iter_mut` and its adapters a proof knows the places' number alone.
     let most = places.len().min(MOST_LINES);
     let mut reader = Reader::new(sheet);
     for count in 0..most {

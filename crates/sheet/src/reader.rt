@@ -1,7 +1,7 @@
 // The reader of a sheet.
 ghost use Rattle.std.specs.Prelude.{◌≡◌, ◌≤◌, length};
 
-use crate::tokens::{Mark, Token, number_of, unfed_len};
+use crate::tokens::{Mark, Token, unfed_len};
 use faults::{FieldFault, Position, Spot, TokenFault};
 
 // A place in a sheet, and the line and the field that are read there.
@@ -108,7 +108,7 @@ impl<'a> Reader<'a> {
     {
         let here = self.position();
         match self.next()? {
-            Token::Number(digits) => Ok(number_of(digits)),
+            Token::Number(digits) => Ok(digits.value()),
             Token::Word(_) | Token::Mark(_) => Err(FieldFault::Misfit(here)),
         }
     }

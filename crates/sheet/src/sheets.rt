@@ -9,10 +9,11 @@ ghost use Rattle.sheet.specs.Refusing.{RefusalsRight};
 ghost use Rattle.sheet.specs.Sheets.{coded, line_at, sheet_says, Answers};
 
 use crate::addresses::block;
+pub use crate::lines::MOST_LINES;
 use crate::lines::{LineForm, read_sheet};
-pub use crate::lines::{LONGEST_SHEET, MOST_LINES};
 use crate::reader::Reader;
-use crate::tokens::{Mark, Token, number_of};
+use crate::tokens::{Mark, Token};
+pub use faults::LONGEST_SHEET;
 use faults::{FieldFault, SheetFault};
 use policy::fields::FIELDS;
 use policy::kinds::Kind;
@@ -35,7 +36,7 @@ impl<'a> Reader<'a> {
                 })
             }
             Token::Number(digits) => {
-                let first = number_of(digits);
+                let first = digits.value();
                 let (second, third, fourth) = self.dotted_rest(Mark::Slash)?;
                 let length = self.number_mark(Mark::Comma)?;
                 block([first, second, third, fourth], length).ok_or(FieldFault::OutOfRange(start))
@@ -75,7 +76,7 @@ impl<'a> Reader<'a> {
                 })
             }
             Token::Number(digits) => {
-                let low = number_of(digits);
+                let low = digits.value();
                 let high = self.high_end()?.unwrap_or(low);
                 if high <= 65_535 && low <= high {
                     Ok(Range { low, high })
@@ -98,7 +99,7 @@ impl<'a> Reader<'a> {
                 self.mark(Mark::Comma)?;
                 return Ok(Range { low: 0, high: 255 });
             }
-            Token::Number(digits) => number_of(digits),
+            Token::Number(digits) => digits.value(),
             Token::Word(b"tcp") => 6,
             Token::Word(b"udp") => 17,
             Token::Word(b"icmp") => 1,

@@ -1,10 +1,9 @@
 // Tokens, the smallest parts of a sheet.
-ghost use Rattle.std.specs.Prelude.{◌≡◌, ◌<◌, ◌≤◌, length};
-ghost use Rattle.std.specs.Str.Parse.{digits_value, AllDigits};
-ghost use Rattle.std.specs.List.{prefix_len};
-ghost use Rattle.sheet.specs.Tokens.{mark_of, is_digit, is_letter, well_made, size};
+ghost use Rattle.std.specs.Prelude.{◌≡◌, ◌≤◌, true, length, option_map};
+ghost use Rattle.std.specs.Str.Parse.{digits_value};
+ghost use Rattle.std.specs.List.{list_all, prefix_len};
+ghost use Rattle.sheet.specs.Tokens.{mark_of, is_digit, is_letter};
 ghost use Rattle.sheet.specs.Sheets.{not_feed};
-ghost use Rattle.sheet.specs.Calls.{seen, Begins};
 
 // A byte that is a token by itself.
 #[derive(Clone, Copy, PartialEq, Eq, Debug)]
@@ -15,14 +14,6 @@ pub enum Mark {
     Star,
     Comma,
     LineFeed,
-}
-
-// A token: a number or a word by its bytes, or a mark.
-#[derive(Clone, Copy, Debug)]
-pub enum Token<'a> {
-    Number(&'a [u8]),
-    Word(&'a [u8]),
-    Mark(Mark),
 }
 
 impl Mark {
@@ -66,35 +57,67 @@ pub fn unfed_len(bytes: &[u8]) -> usize
     bytes.iter().take_while(|b| **b != b'\n').count()
 }
 
-// At most five digits, and no zero before others.
-fn is_well_made(digits: &[u8]) -> bool
-    requires { 0 < length digits.now }
-    ensures { result ≡ well_made digits.now }
-{
-    digits.len() <= 5 && (digits.len() == 1 || digits[0] != b'0')
+// The bytes of a number.
+#[derive(Clone, Copy, Debug)]
+pub struct Digits<'a> {
+    bytes: &'a [u8],
+    ghost few: { length bytes.now ≤ 5 },
+    ghost all: { list_all is_digit bytes.now ≡ true },
+}
+
+impl<'a> Digits<'a> {
+    ghost use Rattle.sheet.specs.Calls.{written};
+    ghost use Rattle.sheet.specs.Tokens.{number_if_made, digits_of};
+
+    // The longest run of digits at the front, if there are at most five, and no zero before others.
+    #[tactic(auto, using(crate::proofs::Taking::run_of_digits))]
+    fn first(bytes: &'a [u8]) -> Option<Digits<'a>>
+        ensures { option_map written result ≡ number_if_made (digits_of bytes.now) }
+    {
+        let digits = &bytes[..digits_len(bytes)];
+        if digits.len() <= 5 && (digits.len() <= 1 || digits[0] != b'0') {
+            Some(Digits { bytes: digits })
+        } else {
+            None
+        }
+    }
+
+    // The number that the digits write.
+    pub fn value(&self) -> u32
+        ensures { result ≡ digits_value 10 self.now.bytes.now }
+    {
+        let mut n = 0u32;
+        for b in self.bytes {
+            n = 10 * n + u32::from(*b - b'0');
+        }
+        n
+    }
+}
+
+// A token: a number or a word by its bytes, or a mark.
+#[derive(Clone, Copy, Debug)]
+pub enum Token<'a> {
+    Number(Digits<'a>),
+    Word(&'a [u8]),
+    Mark(Mark),
 }
 
 impl<'a> Token<'a> {
+    ghost use Rattle.sheet.specs.Calls.{seen};
+    ghost use Rattle.sheet.specs.Tokens.{token, size};
+
     // The token that begins the bytes, if it is well made.
-    #[tactic(auto, using(crate::proofs::Taking::digits_digits), unfolding(crate::specs::Tokens::token))]
+    #[tactic(auto, unfolding(crate::specs::Tokens::token))]
     pub fn first(bytes: &'a [u8]) -> Option<Token<'a>>
-        ensures { Begins bytes.now result }
+        ensures { option_map seen result ≡ token bytes.now }
     {
         let byte = *bytes.first()?;
         if byte.is_ascii_digit() {
-            let digits = &bytes[..digits_len(bytes)];
-            if is_well_made(digits) {
-                Some(Token::Number(digits))
-            } else {
-                None
-            }
+            Some(Token::Number(Digits::first(bytes)?))
         } else if byte.is_ascii_lowercase() {
             Some(Token::Word(&bytes[..letters_len(bytes)]))
         } else {
-            match Mark::of_byte(byte) {
-                Some(mark) => Some(Token::Mark(mark)),
-                None => None,
-            }
+            Some(Token::Mark(Mark::of_byte(byte)?))
         }
     }
 
@@ -103,22 +126,9 @@ impl<'a> Token<'a> {
         ensures { result ≡ size (seen self.now) }
     {
         match self {
-            Token::Number(digits) => digits.len(),
+            Token::Number(digits) => digits.bytes.len(),
             Token::Word(letters) => letters.len(),
             Token::Mark(_) => 1,
         }
     }
-}
-
-// The number that digits write.
-pub fn number_of(digits: &[u8]) -> u32
-    requires few { length digits.now ≤ 5 }
-    requires digits { AllDigits 10 digits.now }
-    ensures { result ≡ digits_value 10 digits.now }
-{
-    let mut n = 0u32;
-    for b in digits {
-        n = 10 * n + u32::from(*b - b'0');
-    }
-    n
 }

@@ -12,4 +12,4 @@ returns-in_ok-length-in-Number c =
     let t = c.in_ok-second-in-Number in
     let end = c.number_mark.new.self in
     let rest : InField (walk 9 address_rest) c.next.new.self end (got (t.second ∷ t.third ∷ t.fourth ∷ c.in_ok-length-in-Number.length ∷ []) end.at) = search rules in
-    ranged_whole address_at c.args.field c.begin-start.ensures.began (address_number c.in_ok-next.ensures (ap seen c.in-Number.is) c.number_of-first.ensures rest) c.begin-start.ensures.start c.block.ensures c.ok_or.ensures.value
+    ranged_whole address_at c.args.field c.begin-start.ensures.began (address_number c.in_ok-next.ensures (ap seen c.in-Number.is) c.value-first.ensures rest) c.begin-start.ensures.start c.block.ensures c.ok_or.ensures.value
