@@ -26,9 +26,9 @@ pub trait LineForm {
 fn read_lines<F: LineForm>(sheet: &[u8], places: &mut [F::Entry]) -> Result<usize, SheetFault>
     ensures { Answers (lines_at F.says sheet.now (min (length places.old) 64) 1 0) places.old places.new result }
 {
-    // By index: after writes through `iter_mut` and its adapters a proof knows the places' number alone.
     let most = places.len().min(MOST_LINES);
     let mut reader = Reader::new(sheet);
+    // By index: after a loop over `iter_mut().enumerate()` a proof knows how many places there are, and not what they hold.
     for count in 0..most {
         if reader.is_at_end() {
             return Ok(count);

@@ -33,6 +33,8 @@ impl Mark {
     }
 }
 
+// Three chains, each with a test of its own: one function over the test would take longer to say than these do.
+
 // How many digits stand at the front.
 fn digits_len(bytes: &[u8]) -> usize
     ensures value { result ≡ prefix_len is_digit bytes.now }
@@ -86,6 +88,7 @@ impl<'a> Digits<'a> {
     pub fn value(&self) -> u32
         ensures { result ≡ digits_value 10 self.now.bytes.now }
     {
+        // No `fold`: nothing says of the number that its closure is given that ten times it still fits.
         let mut n = 0u32;
         for b in self.bytes {
             n = 10 * n + u32::from(*b - b'0');
