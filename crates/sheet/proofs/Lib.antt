@@ -6,8 +6,6 @@ pub mod Turns
 pub mod Numbers
 pub mod Ports
 pub mod Sound
-pub mod PortsOnly
-pub mod Singles
 pub mod AddressesRead
 pub mod Protocols
 pub mod Unfed
@@ -16,3 +14,5 @@ pub mod MeansRead
 pub mod WrongFields
 pub mod Refused
 pub mod HeadersRead
+pub mod Spellings
+pub mod Finding

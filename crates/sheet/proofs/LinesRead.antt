@@ -11,8 +11,7 @@ use Rattle.sheet.specs.Lines.{spot, and_then, ranges_at}
 use Rattle.sheet.specs.Sheets.{not_feed, up_to_feed, good, decided, with_decision, line_at}
 use Rattle.sheet.specs.Meaning.{Parts, joined, Line, Port, Address, Protocol}
 use Rattle.sheet.proofs.Numbers.{past}
-use Rattle.sheet.proofs.Ports.{port_found}
-use Rattle.sheet.proofs.PortsOnly.{port_only}
+use Rattle.sheet.proofs.Ports.{port_found, port_only}
 use Rattle.sheet.proofs.AddressesRead.{address_found, address_only}
 use Rattle.sheet.proofs.Protocols.{protocol_found, protocol_only}
 use Rattle.sheet.proofs.Unfed.{Unfed, unfed_port, unfed_address, unfed_protocol, run_free, split_feed}
@@ -251,9 +250,9 @@ module _ (code : List ℕ → Option ℕ) (s : List ℕ) (l at : ℕ) where
       let t4 = port_only s (spot l 4) r3.1.0 r4.1.0 r4.0 r4.1.1.0 in
       let t5 = protocol_only s (spot l 5) r4.1.0 r5.1.0 r5.0 r5.1.1.0 in
       let same = got_same (r1.0 ∷ r2.0 ∷ r3.0 ∷ r4.0 ∷ r5.0 ∷ []) rule.ranges r5.1.0 q.from r5.1.1.1 in
-      line_whole code s l at r1.1.0 r2.1.0 r3.1.0 r4.1.0 r5.1.0 to t1.0 t2.0 t3.0 t4.0 t5.0 r1.0 r2.0 r3.0 r4.0 r5.0 rule
-      t1.1.1 t2.1.1 t3.1.1 t4.1.1 t5.1.1 t1.1.2 t2.1.2 t3.1.2 t4.1.2 t5.1.2
-      t1.1.0 t2.1.0 t3.1.0 t4.1.0 t5.1.0 (sym same.0)
+      line_whole code s l at r1.1.0 r2.1.0 r3.1.0 r4.1.0 r5.1.0 to t1.text t2.text t3.text t4.text t5.text r1.0 r2.0 r3.0 r4.0 r5.0 rule
+      t1.bytes t2.bytes t3.bytes t4.bytes t5.bytes t1.end t2.end t3.end t4.end t5.end
+      t1.right t2.right t3.right t4.right t5.right (sym same.0)
       (ap (λ (m : ℕ). code (up_to_feed s m)) same.1 ∙ q.word)
       (q.end ∙ ap (λ (m : ℕ). min (m + prefix_len not_feed (drop m s) + 1) (length s)) (sym same.1)) fed
       (q.ranges ∙ ap (got rule.ranges) (sym same.1))

@@ -34,7 +34,7 @@ line_fed code s text rest rule at L d =
     omega (arith, r, n, f)
 
 -- A line that a relation says the meaning of is found, and has its line feed; whatever is read is a line.
-pub record Found {A : Type 0} (Line : List ℕ → A → Type 0) (reads : List ℕ → ℕ → ℕ → Lined A) : Type 0 where
+pub record LineFound {A : Type 0} (Line : List ℕ → A → Type 0) (reads : List ℕ → ℕ → ℕ → Lined A) : Type 0 where
   pub fed : (s text rest : List ℕ) (x : A) (at : ℕ) → Line text x → drop at s ≡ text ++ rest → at + prefix_len not_feed (drop at s) < length s
   pub found : (s text rest : List ℕ) (x : A) (l at : ℕ) → Line text x → drop at s ≡ text ++ rest → at ≤ length s → reads s l at ≡ good x (at + length text)
 
@@ -43,10 +43,10 @@ pub record Taken {A : Type 0} (Line : List ℕ → A → Type 0) (s : List ℕ) 
   pub means : Line text x
   pub bytes : drop at s ≡ text ++ drop to s
 
-abbrev pub Only : {A : Type 0} → (List ℕ → A → Type 0) → (List ℕ → ℕ → ℕ → Lined A) → Type 0
-Only {A} Line reads = (s : List ℕ) (l at to : ℕ) (x : A) → reads s l at ≡ good x to → at + prefix_len not_feed (drop at s) < length s → Taken Line s at to x
+abbrev pub LineOnly : {A : Type 0} → (List ℕ → A → Type 0) → (List ℕ → ℕ → ℕ → Lined A) → Type 0
+LineOnly {A} Line reads = (s : List ℕ) (l at to : ℕ) (x : A) → reads s l at ≡ good x to → at + prefix_len not_feed (drop at s) < length s → Taken Line s at to x
 
-module _ {A : Type 0} (Line : List ℕ → A → Type 0) (reads : List ℕ → ℕ → ℕ → Lined A) (all : Found Line reads) (s : List ℕ) where
+module _ {A : Type 0} (Line : List ℕ → A → Type 0) (reads : List ℕ → ℕ → ℕ → Lined A) (all : LineFound Line reads) (s : List ℕ) where
   pub lines_found : (bytes : List ℕ) (xs : List A) → Means Line bytes xs → (m l at : ℕ) → drop at s ≡ bytes → length xs ≤ m → lines_at reads s m l at ≡ is_clean xs
   lines_found bytes xs nothing m l at d few = at_end reads s l at m (let n = ap length d in let f = length-drop at s in omega (arith, n, f))
   lines_found bytes xs (line {text} {rest} {x} {xs = others} L more) zero l at d few = absurd (omega arith)
@@ -68,7 +68,7 @@ pub never : {A : Type 0} (f : SheetFault) → Some f ≡ None → A
 never f e = absurd (cc)
 
 -- A sheet that is read to its end means its entries.
-module _ {A : Type 0} (Line : List ℕ → A → Type 0) (reads : List ℕ → ℕ → ℕ → Lined A) (only : Only Line reads) (s : List ℕ) where
+module _ {A : Type 0} (Line : List ℕ → A → Type 0) (reads : List ℕ → ℕ → ℕ → Lined A) (only : LineOnly Line reads) (s : List ℕ) where
   abbrev Meant : ℕ → Answer A → Type 0
   Meant at a = a.stop ≡ None → Means Line (drop at s) a.entries
 
@@ -113,7 +113,7 @@ module _ {A : Type 0} (Line : List ℕ → A → Type 0) (reads : List ℕ → �
       ]
 
 -- What the answer of a reading settles.
-pub settled : {A : Type 0} (Line : List ℕ → A → Type 0) (reads : List ℕ → ℕ → ℕ → Lined A) (s : List ℕ) (was is : List A) (r : Result ℕ SheetFault) → Found Line reads → Only Line reads →
+pub settled : {A : Type 0} (Line : List ℕ → A → Type 0) (reads : List ℕ → ℕ → ℕ → Lined A) (s : List ℕ) (was is : List A) (r : Result ℕ SheetFault) → LineFound Line reads → LineOnly Line reads →
     Answers (sheet_says reads s (length was)) was is r → Settles Line s was is r
 settled {A} Line reads s was is (Ok n) all only a =
     let xs : List A = (sheet_says reads s (length was)).entries in
@@ -125,14 +125,14 @@ settled {A} Line reads s was is (Err e) all only a =
     never e (sym a.stops ∙ ap (λ (x : Answer A). x.stop) p)
 
 -- Lines of rules.
-pub rules_found : (code : List ℕ → Option ℕ) → Worded code → Found (Line code) (line_at code)
+pub rules_found : (code : List ℕ → Option ℕ) → Worded code → LineFound (Line code) (line_at code)
 rules_found code worded =
     record {
       fed = λ s text rest x at L d. line_fed code s text rest x at L d;
       found = λ s text rest x l at L d h. line_found code s rest l at text x L (worded L.parts.word x.code L.word_means) d h;
     }
 
-pub rules_only : (code : List ℕ → Option ℕ) → Only (Line code) (line_at code)
+pub rules_only : (code : List ℕ → Option ℕ) → LineOnly (Line code) (line_at code)
 rules_only code s l at to x e fed = let q = line_only code s l at x to e fed in record { text = q.text; means = q.means; bytes = q.bytes }
 
 -- The words of a kind that keeps its law are without a line feed.

@@ -3,6 +3,7 @@ use Rattle.std.proofs.Common.{◌≡◌, ℕ, zero, suc, ◌+◌, ◌≤◌, Boo
 use Rattle.std.proofs.lemmas.Bool.{cases_Bool}
 use Rattle.policy.specs.declared.rules.Range.{Range}
 use Rattle.faults.specs.declared.Spot.{Spot}
+use Rattle.sheet.specs.declared.tokens.Mark.TheVariants.{Comma}
 use Rattle.faults.specs.declared.FieldFault.{FieldFault}
 use Rattle.faults.specs.declared.FieldFault.TheVariants.{IllMade, Misfit, OutOfRange}
 use Rattle.sheet.specs.Tokens.{Tok, token, size}
@@ -12,7 +13,8 @@ use Rattle.sheet.specs.Readings.{address_of, port_of, protocol_of, address_at, p
 use Rattle.sheet.specs.Meaning.{Address, Port}
 use Rattle.sheet.specs.Refusing.{here, next, IllMadeAt, MisfitAt, FieldStops, RightField, FieldWrong, in_source, in_destination, in_source_port, in_destination_port, in_protocol}
 use Rattle.sheet.proofs.AddressesRead.{address_only}
-use Rattle.sheet.proofs.PortsOnly.{Only, port_only}
+use Rattle.sheet.proofs.Ports.{port_only}
+use Rattle.sheet.proofs.Sound.{Only}
 
 -- No way is longer than k.
 abbrev Deep : ℕ → List (List Want) → Type 0
@@ -102,8 +104,8 @@ protocol_stops : (s : List ℕ) (p : Spot) (at : ℕ) (e : FieldFault) → proto
 protocol_stops s p at e h =
     field_stops 1 protocol_form protocol_of s p at e (omega arith, (omega arith, (omega arith, (omega arith, (omega arith, tt))))) (walk 2 protocol_form s p at) refl h
 
-right : (reads : List ℕ → Spot → ℕ → Read Range) (means : List ℕ → Range → Type 0) → Only reads means → (s : List ℕ) (p : Spot) (at to : ℕ) (x : Range) → reads s p at ≡ got x to → RightField means s at to
-right reads means only s p at to x h = let q = only s p at to x h in record { text = q.0; range = x; right = q.1.0; bytes = q.1.1 }
+right : (reads : List ℕ → Spot → ℕ → Read Range) (means : List ℕ → Range → Type 0) → Only Comma reads means → (s : List ℕ) (p : Spot) (at to : ℕ) (x : Range) → reads s p at ≡ got x to → RightField means s at to
+right reads means only s p at to x h = let q = only s p at to x h in record { text = q.text; range = x; right = q.right; bytes = q.bytes }
 
 -- One field after another.
 module _ (s : List ℕ) (l from : ℕ) (e : FieldFault) where

@@ -1,5 +1,5 @@
 -- What the calls of a reader answer.
-use Rattle.std.specs.Prelude.{◌≡◌, ℕ, ◌+◌, ◌≤◌, List, [], ◌∷◌, length, drop, Some, None, Ok, Err, Option, Result}
+use Rattle.std.specs.Prelude.{◌≡◌, ℕ, ◌+◌, List, [], ◌∷◌, drop, Some, None, Ok, Err, Option, Result}
 use Rattle.sheet.specs.declared.tokens.Digits.{Digits}
 use Rattle.sheet.specs.declared.tokens.Token.{Token}
 use Rattle.sheet.specs.declared.tokens.Token.TheVariants.{Number, Word, Mark}
