@@ -4,7 +4,10 @@
 ghost use Rattle.std.specs.Prelude.{◌≡◌};
 ghost use Rattle.faults.specs.declared.FieldFault.TheVariants.{IllMade};
 ghost use Rattle.faults.specs.declared.SheetFault.TheVariants.{Field};
-ghost use Rattle.faults.specs.Faults.{told};
+ghost use Rattle.faults.specs.Faults.{tells_here, told};
+
+// How many bytes a sheet has at most.
+pub const LONGEST_SHEET: usize = 8192;
 
 // A line and a field, both counted from 1.
 #[derive(Clone, Copy, PartialEq, Eq, Debug)]
@@ -13,11 +16,17 @@ pub struct Spot {
     pub field: u8,
 }
 
+// A byte, counted from 0, and the line and field that it is asked for.
+#[derive(Clone, Copy, PartialEq, Eq, Debug)]
+pub struct Position {
+    pub at: usize,
+    pub spot: Spot,
+}
+
 // A token that is not well made, by its first byte.
 #[derive(Clone, Copy, PartialEq, Eq, Debug)]
 pub struct TokenFault {
-    pub at: usize,
-    pub spot: Spot,
+    pub position: Position,
 }
 
 // What is wrong with a field.
@@ -25,25 +34,25 @@ pub struct TokenFault {
 pub enum FieldFault {
     // A token is not well made.
     IllMade(TokenFault),
-    // The token at this byte does not fit the field's form.
-    Misfit(usize, Spot),
-    // The numbers of the field that begins at this byte are out of range.
-    OutOfRange(usize, Spot),
+    // The token that begins here does not fit the field's form.
+    Misfit(Position),
+    // The numbers of the field that begins here are out of range.
+    OutOfRange(Position),
 }
 
-// What is wrong with a sheet. A place in it is a byte, counted from 0.
+// What is wrong with a sheet.
 #[derive(Clone, Copy, PartialEq, Eq, Debug)]
 pub enum SheetFault {
     // It has too many bytes.
     TooLong,
-    // There is no place for the line that begins at this byte; the second number is the line's.
-    NoPlace(usize, usize),
+    // There is no place for the line that begins at this byte.
+    NoPlace { at: usize, line: usize },
     // The line has no line feed: the sheet ends at this byte.
-    NoLineFeed(usize, usize),
+    NoLineFeed { at: usize, line: usize },
     // A field is wrong.
     Field(FieldFault),
-    // What begins at this byte is no word of the kind.
-    NoWord(usize, Spot),
+    // What begins here is no word of the kind.
+    NoWord(Position),
 }
 
 // The part of the reader that finds a fault.
@@ -55,8 +64,8 @@ pub enum Layer {
     Kind,
 }
 
-// What a fault tells: its number, the byte counted from 0, the line and the field counted from 1 (0
-// where there is none), and the layer.
+// What a fault tells: its number, the byte counted from 0, the line and the field counted from 1, and the
+// layer. The numbers are those that go out of the library, which writes 0 where there is no line or field.
 #[derive(Clone, Copy, PartialEq, Eq, Debug)]
 pub struct Told {
     pub number: u8,
@@ -82,20 +91,18 @@ impl From<FieldFault> for SheetFault {
     }
 }
 
-// A fault's number, place and layer.
-fn at_spot(number: u8, byte: usize, spot: Spot, layer: Layer) -> Told
-    ensures number { result.number ≡ number }
-    ensures byte { result.byte ≡ byte }
-    ensures line { result.line ≡ spot.line }
-    ensures field { result.field ≡ spot.field }
-    ensures layer { result.layer ≡ layer }
-{
-    Told {
-        number,
-        byte,
-        line: spot.line,
-        field: spot.field,
-        layer,
+impl Position {
+    // A fault here, by its number and its layer.
+    fn told(self, number: u8, layer: Layer) -> Told
+        ensures { result ≡ tells_here number self layer }
+    {
+        Told {
+            number,
+            byte: self.at,
+            line: self.spot.line,
+            field: self.spot.field,
+            layer,
+        }
     }
 }
 
@@ -104,22 +111,32 @@ impl SheetFault {
     pub fn told(self) -> Told
         ensures { result ≡ told self }
     {
-        let line_start = Spot { line: 0, field: 0 };
         match self {
-            SheetFault::TooLong => at_spot(1, 8192, line_start, Layer::Sheet),
-            SheetFault::NoPlace(at, line) => at_spot(2, at, Spot { line, field: 0 }, Layer::Sheet),
-            SheetFault::NoLineFeed(at, line) => at_spot(
-                3,
-                at,
-                Spot { line, field: 0 },
-                Layer::Sheet,
-            ),
-            SheetFault::Field(fault) => match fault {
-                FieldFault::IllMade(token) => at_spot(4, token.at, token.spot, Layer::Token),
-                FieldFault::Misfit(at, spot) => at_spot(5, at, spot, Layer::Field),
-                FieldFault::OutOfRange(at, spot) => at_spot(6, at, spot, Layer::Field),
+            SheetFault::TooLong => Told {
+                number: 1,
+                byte: LONGEST_SHEET,
+                line: 0,
+                field: 0,
+                layer: Layer::Sheet,
             },
-            SheetFault::NoWord(at, spot) => at_spot(7, at, spot, Layer::Kind),
+            SheetFault::NoPlace { at, line } => Told {
+                number: 2,
+                byte: at,
+                line,
+                field: 0,
+                layer: Layer::Sheet,
+            },
+            SheetFault::NoLineFeed { at, line } => Told {
+                number: 3,
+                byte: at,
+                line,
+                field: 0,
+                layer: Layer::Sheet,
+            },
+            SheetFault::Field(FieldFault::IllMade(fault)) => fault.position.told(4, Layer::Token),
+            SheetFault::Field(FieldFault::Misfit(here)) => here.told(5, Layer::Field),
+            SheetFault::Field(FieldFault::OutOfRange(here)) => here.told(6, Layer::Field),
+            SheetFault::NoWord(here) => here.told(7, Layer::Kind),
         }
     }
 }

@@ -1,122 +1,48 @@
 -- A header line as bytes, and what is read.
-use Rattle.std.proofs.Common.{◌≡◌, ℕ, ◌+◌, ◌<◌, ◌≤◌, Bool, true, cond, ◌&&◌, leb, List, [], ◌∷◌, ◌++◌, length, drop, Some, None, decimal, sym, refl, ap, ◌∙◌, subst, inl, inr, append_assoc, arith, length-append, length-drop}
-use Rattle.std.proofs.lemmas.Bool.{cases_Bool, and_parts, and_from, leb-true, le-leb}
+use Rattle.std.proofs.Common.{◌≡◌, ℕ, ◌+◌, ◌<◌, ◌≤◌, Bool, true, cond, ◌&&◌, leb, List, [], ◌∷◌, ◌++◌, length, drop, Some, None, codes, decimal, sym, refl, ap, ◌∙◌, subst, inl, inr, append_assoc, arith, length-append, length-drop}
+use Rattle.std.proofs.lemmas.Bool.{cases_Bool, and_parts, and_from, leb-true, le-leb, eq-eqb}
 use Rattle.policy.specs.declared.fields.Header.{Header}
-use Rattle.faults.specs.declared.Spot.{Spot}
 use Rattle.sheet.specs.declared.tokens.Mark.{Mark}
-use Rattle.sheet.specs.declared.tokens.Mark.TheVariants.{Dot, Comma, LineFeed}
-use Rattle.sheet.specs.Tokens.{run}
-use Rattle.sheet.specs.Forms.{Want, digits, the, byte, Read, got, fault, walk}
-use Rattle.sheet.specs.Headers.{dotted_form, number_form, dotted_of, up_to, dotted_at, number_at, numbers_at, header_of, header_at}
+use Rattle.sheet.specs.declared.tokens.Mark.TheVariants.{Comma, LineFeed}
+use Rattle.std.specs.List.{prefix_len}
+use Rattle.sheet.specs.Forms.{digits, byte, Read, got, fault}
+use Rattle.sheet.specs.Headers.{number_way, up_to, dotted_at, number_at, numbers_at, header_of, header_at}
 use Rattle.sheet.specs.Lines.{spot}
-use Rattle.sheet.specs.Readings.{address_low, meant, ranged}
+use Rattle.sheet.specs.Readings.{address_low, dotted_of, dotted_rest}
 use Rattle.sheet.specs.Sheets.{not_feed, good}
 use Rattle.sheet.specs.Meaning.{Dotted, UpTo, HeaderLine}
-use Rattle.sheet.proofs.PortsOnly.{meant_got}
-use Rattle.sheet.proofs.Singles.{single_way}
-use Rattle.sheet.proofs.Sound.{Spelt, In, here, there, walk_sound}
+use Rattle.sheet.proofs.Finding.{Found, found_alone}
+use Rattle.sheet.proofs.Sound.{Only, Written, FieldRead, only_alone}
+use Rattle.sheet.proofs.Spellings.{here, there, closed}
 use Rattle.sheet.proofs.LinesRead.{after_field, step, then_got, got_same}
-use Rattle.sheet.proofs.MeansRead.{Found, Only, Taken}
+use Rattle.sheet.proofs.MeansRead.{LineFound, LineOnly, Taken}
 use Rattle.sheet.proofs.Unfed.{run_before}
 
--- Four numbers with dots, and what closes them.
-abbrev dotted_text : ℕ → ℕ → ℕ → ℕ → List ℕ → List ℕ
-dotted_text a b c d end = decimal a ++ (46 ∷ (decimal b ++ (46 ∷ (decimal c ++ (46 ∷ (decimal d ++ end))))))
+-- Four numbers with dots.
+abbrev dotted_text : ℕ → ℕ → ℕ → ℕ → List ℕ
+dotted_text a b c d = decimal a ++ (codes "." ++ (decimal b ++ (codes "." ++ (decimal c ++ (codes "." ++ decimal d)))))
 
-apart : (a b c d : ℕ) (end : List ℕ) → (decimal a ++ (46 ∷ (decimal b ++ (46 ∷ (decimal c ++ (46 ∷ decimal d)))))) ++ end ≡ dotted_text a b c d end
-apart a b c d end = simp append_assoc
-
-dotted_spelt : (a b c d : ℕ) → a < 100000 → b < 100000 → c < 100000 → d < 100000 →
-    Spelt (digits ∷ the Dot ∷ digits ∷ the Dot ∷ digits ∷ the Dot ∷ digits ∷ the Comma ∷ []) (dotted_text a b c d (44 ∷ [])) (a ∷ b ∷ c ∷ d ∷ [])
-dotted_spelt a b c d ha hb hc hd =
-    record {
-      n = a;
-      left = 46 ∷ (decimal b ++ (46 ∷ (decimal c ++ (46 ∷ (decimal d ++ (44 ∷ []))))));
-      others = b ∷ c ∷ d ∷ [];
-      small = ha;
-      text_is = refl;
-      ns_is = refl;
-      rest =
-          record {
-            left = decimal b ++ (46 ∷ (decimal c ++ (46 ∷ (decimal d ++ (44 ∷ [])))));
-            text_is = refl;
-            rest =
-                record {
-                  n = b;
-                  left = 46 ∷ (decimal c ++ (46 ∷ (decimal d ++ (44 ∷ []))));
-                  others = c ∷ d ∷ [];
-                  small = hb;
-                  text_is = refl;
-                  ns_is = refl;
-                  rest =
-                      record {
-                        left = decimal c ++ (46 ∷ (decimal d ++ (44 ∷ [])));
-                        text_is = refl;
-                        rest =
-                            record {
-                              n = c;
-                              left = 46 ∷ (decimal d ++ (44 ∷ []));
-                              others = d ∷ [];
-                              small = hc;
-                              text_is = refl;
-                              ns_is = refl;
-                              rest =
-                                  record {
-                                    left = decimal d ++ (44 ∷ []);
-                                    text_is = refl;
-                                    rest =
-                                        record {
-                                          n = d;
-                                          left = 44 ∷ [];
-                                          others = [];
-                                          small = hd;
-                                          text_is = refl;
-                                          ns_is = refl;
-                                          rest =
-                                              record { left = []; text_is = refl; rest = (refl, refl) };
-                                        };
-                                  };
-                            };
-                      };
-                };
-          };
-    }
+apart : (a b c d : ℕ) → dotted_text a b c d ++ (44 ∷ []) ≡ decimal a ++ (46 ∷ (decimal b ++ (46 ∷ (decimal c ++ (46 ∷ (decimal d ++ (44 ∷ [])))))))
+apart a b c d = simp append_assoc
 
 in_range : (a b c d : ℕ) → a ≤ 255 → b ≤ 255 → c ≤ 255 → d ≤ 255 → (leb a 255 && (leb b 255 && (leb c 255 && leb d 255))) ≡ true
 in_range a b c d ha hb hc hd =
     and_from (leb a 255) (leb b 255 && (leb c 255 && leb d 255)) (le-leb a 255 ha)
     (and_from (leb b 255) (leb c 255 && leb d 255) (le-leb b 255 hb) (and_from (leb c 255) (leb d 255) (le-leb c 255 hc) (le-leb d 255 hd)))
 
-dotted_found : (s text rest : List ℕ) (p : Spot) (at n : ℕ) → Dotted text n → drop at s ≡ text ++ (44 ∷ rest) → dotted_at s p at ≡ got n (at + (length text + 1))
+dotted_found : Found Comma dotted_at Dotted
 dotted_found s text rest p at n D e =
-    let a = D.a in
-    let b = D.b in
-    let c = D.c in
-    let d = D.d in
     let small = D.small in
-    let full : drop at s ≡ dotted_text a b c d (44 ∷ []) ++ rest = e ∙ ap (λ (t : List ℕ). t ++ (44 ∷ rest)) D.text_is ∙ simp append_assoc in
-    let size : length text + 1 ≡ length (dotted_text a b c d (44 ∷ [])) =
-    let q = ap (λ (t : List ℕ). length (t ++ (44 ∷ []))) D.text_is ∙ ap length (apart a b c d (44 ∷ [])) in omega (arith, q, length-append text (44 ∷ [])) in
-    ap (meant dotted_of p at) (single_way s rest p (digits ∷ the Dot ∷ digits ∷ the Dot ∷ digits ∷ the Dot ∷ digits ∷ the Comma ∷ []) 8 (dotted_text a b c d (44 ∷ [])) (a ∷ b ∷ c ∷ d ∷ []) at tt (omega arith)
-    (dotted_spelt a b c d (omega (arith, small.0)) (omega (arith, small.1)) (omega (arith, small.2)) (omega (arith, small.3))) full)
-    ∙ ap (λ (v : Bool). ranged p at (at + length (dotted_text a b c d (44 ∷ []))) (cond v (Some (address_low a b c d)) None)) (in_range a b c d small.0 small.1 small.2 small.3)
-    ∙ ap (λ (k : ℕ). got k (at + length (dotted_text a b c d (44 ∷ [])))) (sym D.n_is)
-    ∙ ap (λ (k : ℕ). got n (at + k)) (sym size)
+    found_alone Comma dotted_of s text rest p at n e (digits ∷ dotted_rest Comma) (D.a ∷ D.b ∷ D.c ∷ D.d ∷ []) (omega (arith, small.0), (omega (arith, small.1), (omega (arith, small.2), (omega (arith, small.3), tt))))
+    (sym (ap (λ (t : List ℕ). t ++ (44 ∷ [])) D.text_is ∙ apart D.a D.b D.c D.d))
+    (ap (λ (v : Bool). cond v (Some (address_low D.a D.b D.c D.d)) None) (in_range D.a D.b D.c D.d small.0 small.1 small.2 small.3) ∙ ap Some (sym D.n_is)) refl
 
-number_found : (top : ℕ) (m : Mark) → top < 100000 → (s text rest : List ℕ) (p : Spot) (at n : ℕ) → UpTo top text n → drop at s ≡ text ++ (byte m ∷ rest) → number_at top m s p at ≡ got n (at + (length text + 1))
+number_found : (top : ℕ) (m : Mark) → top < 100000 → Found m (number_at top m) (UpTo top)
 number_found top m h s text rest p at n U e =
-    let full : drop at s ≡ (decimal n ++ (byte m ∷ [])) ++ rest = e ∙ ap (λ (t : List ℕ). t ++ (byte m ∷ rest)) U.1 ∙ simp append_assoc in
-    let size : length text + 1 ≡ length (decimal n ++ (byte m ∷ [])) = let q = ap length U.1 in omega (arith, q, length-append (decimal n) (byte m ∷ [])) in
-    ap (meant (up_to top) p at) (single_way s rest p (digits ∷ the m ∷ []) 2 (decimal n ++ (byte m ∷ [])) (n ∷ []) at tt (omega arith)
-    (record { n = n; left = byte m ∷ []; others = []; small = omega (arith, U.0); text_is = refl; ns_is = refl; rest = record { left = []; text_is = refl; rest = (refl, refl) } }) full)
-    ∙ ap (λ (v : Bool). ranged p at (at + length (decimal n ++ (byte m ∷ []))) (cond v (Some n) None)) (le-leb n top U.0)
-    ∙ ap (λ (k : ℕ). got n (at + k)) (sym size)
-
--- A field was read: these bytes, with what closes them.
-pub record FieldRead (means : List ℕ → ℕ → Type 0) (close : ℕ) (s : List ℕ) (at to n : ℕ) : Type 0 where
-  pub text : List ℕ
-  pub right : means text n
-  pub bytes : drop at s ≡ text ++ (close ∷ drop to s)
+    found_alone m (up_to top) s text rest p at n e (number_way m) (n ∷ []) (omega (arith, U.0), tt) (ap (λ (t : List ℕ). t ++ (byte m ∷ [])) (sym U.1)) (ap (λ (v : Bool). cond v (Some n) None) (le-leb n top U.0)) (mark_closes m)
+  where
+    mark_closes : (m : Mark) → closed m (number_way m) ≡ true
+    mark_closes m = eq-eqb (byte m) (byte m) refl
 
 some_same : (x y : ℕ) → Some x ≡ Some y → x ≡ y
 some_same x y e = cc
@@ -131,37 +57,21 @@ four_got a b c d n e =
           let p2 = and_parts (leb b 255) (leb c 255 && leb d 255) p1.1 in
           let p3 = and_parts (leb c 255) (leb d 255) p2.1 in
           ((leb-true a 255 p1.0, leb-true b 255 p2.0, leb-true c 255 p3.0, leb-true d 255 p3.1), sym k)
-      | inr w ↦
-          let f : None ≡ Some n = ap (λ (v : Bool). cond v (Some (address_low a b c d)) None) (sym w) ∙ e in
-          let z : ◌≡◌ {A = ℕ} 0 1 = cc in absurd (omega arith)
+      | inr w ↦ let f : None ≡ Some n = ap (λ (v : Bool). cond v (Some (address_low a b c d)) None) (sym w) ∙ e in absurd (cc)
     ]
 
-dotted_ways : (way : List Want) (text ns : List ℕ) (n : ℕ) → In way dotted_form → Spelt way text ns → dotted_of ns ≡ Some n → (body : List ℕ) × (Dotted body n × (text ≡ body ++ (44 ∷ [])))
-dotted_ways way text ns n here sp e =
-    let a = sp.n in
-    let s2 = sp.rest.rest in
-    let b = s2.n in
-    let s3 = s2.rest.rest in
-    let c = s3.n in
-    let s4 = s3.rest.rest in
-    let d = s4.n in
-    let is : ns ≡ a ∷ b ∷ c ∷ d ∷ [] = sp.ns_is ∙ ap (λ (k : List ℕ). a ∷ k) (s2.ns_is ∙ ap (λ (k : List ℕ). b ∷ k) (s3.ns_is ∙ ap (λ (k : List ℕ). c ∷ k) (s4.ns_is ∙ ap (λ (k : List ℕ). d ∷ k) s4.rest.rest.1))) in
-    let t4 = s4.text_is ∙ ap (λ (k : List ℕ). decimal d ++ k) (s4.rest.text_is ∙ ap (λ (k : List ℕ). 44 ∷ k) s4.rest.rest.0) in
-    let t3 = s3.text_is ∙ ap (λ (k : List ℕ). decimal c ++ k) (s3.rest.text_is ∙ ap (λ (k : List ℕ). 46 ∷ k) t4) in
-    let t2 = s2.text_is ∙ ap (λ (k : List ℕ). decimal b ++ k) (s2.rest.text_is ∙ ap (λ (k : List ℕ). 46 ∷ k) t3) in
-    let t1 = sp.text_is ∙ ap (λ (k : List ℕ). decimal a ++ k) (sp.rest.text_is ∙ ap (λ (k : List ℕ). 46 ∷ k) t2) in
-    let q = four_got a b c d n (ap dotted_of (sym is) ∙ e) in (
-      decimal a ++ (46 ∷ (decimal b ++ (46 ∷ (decimal c ++ (46 ∷ decimal d))))),
-      (record { a = a; b = b; c = c; d = d; small = q.0; text_is = refl; n_is = q.1 }, t1 ∙ sym (apart a b c d (44 ∷ []))),
-    )
-dotted_ways way text ns n (there i) sp e = elim i [ ]
+dotted_written : Written Comma dotted_of Dotted ((digits ∷ dotted_rest Comma) ∷ [])
+dotted_written way [] n here suits e = absurd suits
+dotted_written way (a ∷ []) n here suits e = absurd suits.1
+dotted_written way (a ∷ b ∷ []) n here suits e = absurd suits.1.1
+dotted_written way (a ∷ b ∷ c ∷ []) n here suits e = absurd suits.1.1.1
+dotted_written way (a ∷ b ∷ c ∷ d ∷ []) n here suits e =
+    let q = four_got a b c d n e in (dotted_text a b c d, (record { a = a; b = b; c = c; d = d; small = q.0; text_is = refl; n_is = q.1 }, sym (apart a b c d)))
+dotted_written way (a ∷ b ∷ c ∷ d ∷ m ∷ ns) n here suits e = absurd suits.1.1.1.1
+dotted_written way ns n (there i) suits e = elim i [ ]
 
-dotted_only : (s : List ℕ) (p : Spot) (at to n : ℕ) → dotted_at s p at ≡ got n to → FieldRead Dotted 44 s at to n
-dotted_only s p at to n h =
-    let m = meant_got dotted_of p at (walk 8 dotted_form s p at) n to h in
-    let st = walk_sound 8 dotted_form s p at m.0 to m.1.0 in
-    let b = dotted_ways st.0 st.1.0 m.0 n st.1.1.0 st.1.1.1 m.1.1 in
-    record { text = b.0; right = b.1.0; bytes = st.1.1.2 ∙ ap (λ (t : List ℕ). t ++ drop to s) b.1.1 ∙ append_assoc b.0 (44 ∷ []) (drop to s) }
+dotted_only : Only Comma dotted_at Dotted
+dotted_only s p at to n h = only_alone Comma dotted_of Dotted (digits ∷ dotted_rest Comma) dotted_written s at to n p h
 
 one_got : (top a n : ℕ) → up_to top (a ∷ []) ≡ Some n → (n ≤ top) × (a ≡ n)
 one_got top a n e =
@@ -170,24 +80,17 @@ one_got top a n e =
           let f : Some a ≡ Some n = ap (λ (b : Bool). cond b (Some a) None) (sym w) ∙ e in
           let k = some_same a n f in
           (subst (λ (x : ℕ). x ≤ top) k (leb-true a top w), k)
-      | inr w ↦ let f : None ≡ Some n = ap (λ (b : Bool). cond b (Some a) None) (sym w) ∙ e in let z : ◌≡◌ {A = ℕ} 0 1 = cc in absurd (omega arith)
+      | inr w ↦ let f : None ≡ Some n = ap (λ (b : Bool). cond b (Some a) None) (sym w) ∙ e in absurd (cc)
     ]
 
-number_ways : (top : ℕ) (m : Mark) (way : List Want) (text ns : List ℕ) (n : ℕ) → In way (number_form m) → Spelt way text ns → up_to top ns ≡ Some n → (body : List ℕ) × (UpTo top body n × (text ≡ body ++ (byte m ∷ [])))
-number_ways top m way text ns n here sp e =
-    let is : ns ≡ sp.n ∷ [] = sp.ns_is ∙ ap (λ (k : List ℕ). sp.n ∷ k) sp.rest.rest.1 in
-    let q = one_got top sp.n n (ap (up_to top) (sym is) ∙ e) in (
-      decimal sp.n,
-      ((q.0, ap decimal q.1), sp.text_is ∙ ap (λ (k : List ℕ). decimal sp.n ++ k) (sp.rest.text_is ∙ ap (λ (k : List ℕ). byte m ∷ k) sp.rest.rest.0)),
-    )
-number_ways top m way text ns n (there i) sp e = elim i [ ]
+number_written : (top : ℕ) (m : Mark) → Written m (up_to top) (UpTo top) (number_way m ∷ [])
+number_written top m way [] n here suits e = absurd suits
+number_written top m way (a ∷ []) n here suits e = let q = one_got top a n e in (decimal a, ((q.0, ap decimal q.1), refl))
+number_written top m way (a ∷ b ∷ ns) n here suits e = absurd suits.1
+number_written top m way ns n (there i) suits e = elim i [ ]
 
-number_only : (top : ℕ) (m : Mark) (s : List ℕ) (p : Spot) (at to n : ℕ) → number_at top m s p at ≡ got n to → FieldRead (UpTo top) (byte m) s at to n
-number_only top m s p at to n h =
-    let r = meant_got (up_to top) p at (walk 2 (number_form m) s p at) n to h in
-    let st = walk_sound 2 (number_form m) s p at r.0 to r.1.0 in
-    let b = number_ways top m st.0 st.1.0 r.0 n st.1.1.0 st.1.1.1 r.1.1 in
-    record { text = b.0; right = b.1.0; bytes = st.1.1.2 ∙ ap (λ (t : List ℕ). t ++ drop to s) b.1.1 ∙ append_assoc b.0 (byte m ∷ []) (drop to s) }
+number_only : (top : ℕ) (m : Mark) → Only m (number_at top m) (UpTo top)
+number_only top m s p at to n h = only_alone m (up_to top) (UpTo top) (number_way m) (number_written top m) s at to n p h
 
 -- A header line is found.
 long : (x y : List ℕ) (b : ℕ) → length (x ++ (b ∷ y)) ≡ length x + (1 + length y)
@@ -229,28 +132,28 @@ header_found s text rest h l at L d inside =
     let size : m6 ≡ at + length text = let q = ap length L.text_is in omega (arith, q, e1, e2, e3, e4, e5) in
     ap header_of read ∙ ap (good h) size
 
-header_fed : (s text rest : List ℕ) (h : Header) (at : ℕ) → HeaderLine text h → drop at s ≡ text ++ rest → at + run not_feed (drop at s) < length s
+header_fed : (s text rest : List ℕ) (h : Header) (at : ℕ) → HeaderLine text h → drop at s ≡ text ++ rest → at + prefix_len not_feed (drop at s) < length s
 header_fed s text rest h at L d =
     let body : List ℕ = L.source ++ (44 ∷ (L.destination ++ (44 ∷ (L.source_port ++ (44 ∷ (L.destination_port ++ (44 ∷ L.protocol))))))) in
     let e : drop at s ≡ body ++ (10 ∷ rest) = d ∙ ap (λ (t : List ℕ). t ++ rest) L.text_is ∙ simp append_assoc in
-    let r = subst (λ (t : List ℕ). run not_feed t ≤ length body) (sym e) (run_before body rest) in
+    let r = subst (λ (t : List ℕ). prefix_len not_feed t ≤ length body) (sym e) (run_before body rest) in
     let n = ap length e ∙ length-append body (10 ∷ rest) in
     let f = length-drop at s in
     omega (arith, r, n, f)
 
-pub headers_found : Found HeaderLine header_at
+pub headers_found : LineFound HeaderLine header_at
 headers_found = record { fed = header_fed; found = header_found }
 
 -- What is read is a header line.
 header_got : (x : Read (List ℕ)) (h : Header) (to : ℕ) → header_of x ≡ good h to → x ≡ got h.numbers to
-header_got (fault e) h to q = let z : ◌≡◌ {A = ℕ} 0 1 = cc in absurd (omega arith)
+header_got (fault e) h to q = absurd (cc)
 header_got (got ns m) h to q =
     let k : record { numbers = ns } ≡ h = cc in
     let o : m ≡ to = cc in
     ap (λ (y : Header). got y.numbers m) k ∙ ap (got h.numbers) o
 
-module _ (s : List ℕ) (at m2 m3 m4 m5 to x1 x2 x3 x4 x5 : ℕ) (h : Header) (r1 : FieldRead Dotted 44 s at m2 x1) (r2 : FieldRead Dotted 44 s m2 m3 x2) (r3 : FieldRead (UpTo 65535) 44 s m3 m4 x3) (r4 : FieldRead (UpTo 65535) 44 s m4 m5 x4)
-    (r5 : FieldRead (UpTo 255) 10 s m5 to x5) (all : h.numbers ≡ x1 ∷ x2 ∷ x3 ∷ x4 ∷ x5 ∷ []) where
+module _ (s : List ℕ) (at m2 m3 m4 m5 to x1 x2 x3 x4 x5 : ℕ) (h : Header) (r1 : FieldRead Comma Dotted s at m2 x1) (r2 : FieldRead Comma Dotted s m2 m3 x2) (r3 : FieldRead Comma (UpTo 65535) s m3 m4 x3) (r4 : FieldRead Comma (UpTo 65535) s m4 m5 x4)
+    (r5 : FieldRead LineFeed (UpTo 255) s m5 to x5) (all : h.numbers ≡ x1 ∷ x2 ∷ x3 ∷ x4 ∷ x5 ∷ []) where
   header_whole : Taken HeaderLine s at to h
   header_whole =
       record {
@@ -281,7 +184,7 @@ module _ (s : List ℕ) (at m2 m3 m4 m5 to x1 x2 x3 x4 x5 : ℕ) (h : Header) (r
             ∙ sym (simp append_assoc);
       }
 
-pub headers_only : Only HeaderLine header_at
+pub headers_only : LineOnly HeaderLine header_at
 headers_only s l at to h e fed =
     let q = header_got (numbers_at s l at) h to e in
     let r1 = then_got (dotted_at s (spot l 1) at) _ h.numbers to q in

@@ -1,16 +1,12 @@
-pub mod Runs
 pub mod Taking
 pub mod Walks
 pub mod Blocks
 pub mod Fields
-pub mod Decisions
 pub mod Turns
 pub mod Numbers
 pub mod Ports
 pub mod Sound
-pub mod PortsOnly
-pub mod Singles
-pub mod Addresses
+pub mod AddressesRead
 pub mod Protocols
 pub mod Unfed
 pub mod LinesRead
@@ -18,3 +14,5 @@ pub mod MeansRead
 pub mod WrongFields
 pub mod Refused
 pub mod HeadersRead
+pub mod Spellings
+pub mod Finding

@@ -4,16 +4,15 @@ use Rattle.std.proofs.lemmas.List.{take_at, drop-drop}
 use Rattle.policy.specs.declared.rules.Range.{Range}
 use Rattle.policy.specs.declared.rules.Rule.{Rule}
 use Rattle.faults.specs.declared.Spot.{Spot}
-use Rattle.sheet.specs.Tokens.{run}
+use Rattle.std.specs.List.{prefix_len}
 use Rattle.sheet.specs.Forms.{Read, got, fault}
 use Rattle.sheet.specs.Readings.{address_at, port_at, protocol_at}
 use Rattle.sheet.specs.Lines.{spot, and_then, ranges_at}
 use Rattle.sheet.specs.Sheets.{not_feed, up_to_feed, good, decided, with_decision, line_at}
 use Rattle.sheet.specs.Meaning.{Parts, joined, Line, Port, Address, Protocol}
 use Rattle.sheet.proofs.Numbers.{past}
-use Rattle.sheet.proofs.Ports.{port_found}
-use Rattle.sheet.proofs.PortsOnly.{port_only}
-use Rattle.sheet.proofs.Addresses.{address_found, address_only}
+use Rattle.sheet.proofs.Ports.{port_found, port_only}
+use Rattle.sheet.proofs.AddressesRead.{address_found, address_only}
 use Rattle.sheet.proofs.Protocols.{protocol_found, protocol_only}
 use Rattle.sheet.proofs.Unfed.{Unfed, unfed_port, unfed_address, unfed_protocol, run_free, split_feed}
 
@@ -103,12 +102,12 @@ module _ (code : List ℕ → Option ℕ) (s rest : List ℕ) (l at : ℕ) where
       let d5 = after_field s p.destination_port (from_5 p rest) (start_4 p at) d4 in
       let d6 = after_field s p.protocol (from_6 p rest) (start_5 p at) d5 in
       let a6 : ℕ = start_6 p at in
-      let n : run not_feed (drop a6 s) ≡ length p.word = ap (run not_feed) d6 ∙ run_free p.word (10 ∷ rest) free ∙ omega arith in
+      let n : prefix_len not_feed (drop a6 s) ≡ length p.word = ap (prefix_len not_feed) d6 ∙ run_free p.word (10 ∷ rest) free ∙ omega arith in
       let w : up_to_feed s a6 ≡ p.word = ap (λ (k : ℕ). take k (drop a6 s)) n ∙ ap (take (length p.word)) d6 ∙ take_at p.word (10 ∷ rest) (length p.word) refl in
       let size : at + length text ≡ a6 + (length p.word + 1) = ap (λ (t : List ℕ). at + length t) L.text_is ∙ length_joined p at in
       let fits = length-drop at s in
       let total = ap length d ∙ length-append text rest in
-      let end : min (a6 + run not_feed (drop a6 s) + 1) (length s) ≡ at + length text = omega (arith, n, size, fits, total) in
+      let end : min (a6 + prefix_len not_feed (drop a6 s) + 1) (length s) ≡ at + length text = omega (arith, n, size, fits, total) in
       ap (with_decision code s l) (ranges_found text rule L d1)
       ∙ ap (λ (k : ℕ). decided rule.ranges (spot l 6) a6 k (code (up_to_feed s a6))) end
       ∙ ap (decided rule.ranges (spot l 6) a6 (at + length text)) (ap code w ∙ L.word_means)
@@ -116,30 +115,30 @@ module _ (code : List ℕ → Option ℕ) (s rest : List ℕ) (l at : ℕ) where
 -- What was read before and after a step.
 pub then_got : {A B : Type 0} (x : Read A) (f : A → ℕ → Read B) (b : B) (to : ℕ) → and_then x f ≡ got b to → (a : A) × ((m : ℕ) × ((x ≡ got a m) × (f a m ≡ got b to)))
 then_got (got a m) f b to e = (a, (m, (refl, e)))
-then_got (fault g) f b to e = let z : ◌≡◌ {A = ℕ} 0 1 = cc in absurd (omega arith)
+then_got (fault g) f b to e = absurd (cc)
 
 pub record Decided (code : List ℕ → Option ℕ) (s : List ℕ) (x : Read (List Range)) (rule : Rule) (to : ℕ) : Type 0 where
   pub from : ℕ
   pub ranges : x ≡ got rule.ranges from
   pub word : code (up_to_feed s from) ≡ Some rule.code
-  pub end : to ≡ min (from + run not_feed (drop from s) + 1) (length s)
+  pub end : to ≡ min (from + prefix_len not_feed (drop from s) + 1) (length s)
 
 decided_good : (r : List Range) (p : Spot) (at end : ℕ) (o : Option ℕ) (rule : Rule) (to : ℕ) → decided r p at end o ≡ good rule to → (o ≡ Some rule.code) × (r ≡ rule.ranges) × (to ≡ end)
-decided_good r p at end None rule to e = let z : ◌≡◌ {A = ℕ} 0 1 = cc in absurd (omega arith)
+decided_good r p at end None rule to e = absurd (cc)
 decided_good r p at end (Some c) rule to e =
     let q : record { ranges = r; code = c } ≡ rule = cc in
     let k : end ≡ to = cc in
     (ap (λ (x : Rule). Some x.code) q, ap (λ (x : Rule). x.ranges) q, sym k)
 
 with_good : (code : List ℕ → Option ℕ) (s : List ℕ) (l : ℕ) (x : Read (List Range)) (rule : Rule) (to : ℕ) → with_decision code s l x ≡ good rule to → Decided code s x rule to
-with_good code s l (fault g) rule to e = let z : ◌≡◌ {A = ℕ} 0 1 = cc in absurd (omega arith)
+with_good code s l (fault g) rule to e = absurd (cc)
 with_good code s l (got r at) rule to e =
-    let q = decided_good r (spot l 6) at (min (at + run not_feed (drop at s) + 1) (length s)) (code (up_to_feed s at)) rule to e in
+    let q = decided_good r (spot l 6) at (min (at + prefix_len not_feed (drop at s) + 1) (length s)) (code (up_to_feed s at)) rule to e in
     record { from = at; ranges = ap (λ (y : List Range). got y at) q.1; word = q.0; end = q.2 }
 
 -- The line feed after a field is the line feed after the next one.
-feed_after : (s field : List ℕ) (at m : ℕ) → drop at s ≡ field ++ (44 ∷ drop m s) → m ≡ at + (length field + 1) → Unfed field → at + run not_feed (drop at s) ≡ m + run not_feed (drop m s)
-feed_after s field at m d e free = let q = ap (run not_feed) d ∙ run_free field (44 ∷ drop m s) free in omega (arith, q)
+feed_after : (s field : List ℕ) (at m : ℕ) → drop at s ≡ field ++ (44 ∷ drop m s) → m ≡ at + (length field + 1) → Unfed field → at + prefix_len not_feed (drop at s) ≡ m + prefix_len not_feed (drop m s)
+feed_after s field at m d e free = let q = ap (prefix_len not_feed) d ∙ run_free field (44 ∷ drop m s) free in omega (arith, q)
 
 pub record LineRead (code : List ℕ → Option ℕ) (s : List ℕ) (l at to : ℕ) (rule : Rule) : Type 0 where
   pub text : List ℕ
@@ -147,7 +146,7 @@ pub record LineRead (code : List ℕ → Option ℕ) (s : List ℕ) (l at to : �
   pub from : ℕ
   pub read : ranges_at s l at ≡ got rule.ranges from
   pub word_is : means.parts.word ≡ up_to_feed s from
-  pub after : to ≡ from + suc (run not_feed (drop from s))
+  pub after : to ≡ from + suc (prefix_len not_feed (drop from s))
   pub bytes : drop at s ≡ text ++ drop to s
   pub end : to ≡ at + length text
 
@@ -162,9 +161,9 @@ module _
     (e1 : m2 ≡ at + (length t1 + 1)) (e2 : m3 ≡ m2 + (length t2 + 1)) (e3 : m4 ≡ m3 + (length t3 + 1)) (e4 : m5 ≡ m4 + (length t4 + 1)) (e5 : m6 ≡ m5 + (length t5 + 1))
     (h1 : Address t1 x1) (h2 : Address t2 x2) (h3 : Port t3 x3) (h4 : Port t4 x4) (h5 : Protocol t5 x5)
     (all : rule.ranges ≡ x1 ∷ x2 ∷ x3 ∷ x4 ∷ x5 ∷ []) (coded : code (up_to_feed s m6) ≡ Some rule.code)
-    (end : to ≡ min (m6 + run not_feed (drop m6 s) + 1) (length s)) (fed : at + run not_feed (drop at s) < length s)
+    (end : to ≡ min (m6 + prefix_len not_feed (drop m6 s) + 1) (length s)) (fed : at + prefix_len not_feed (drop at s) < length s)
     (read : ranges_at s l at ≡ got rule.ranges m6) where
-  near : m6 + run not_feed (drop m6 s) < length s
+  near : m6 + prefix_len not_feed (drop m6 s) < length s
   near =
       let f1 = feed_after s t1 at m2 d1 e1 (unfed_address t1 x1 h1) in
       let f2 = feed_after s t2 m2 m3 d2 e2 (unfed_address t2 x2 h2) in
@@ -173,12 +172,12 @@ module _
       let f5 = feed_after s t5 m5 m6 d5 e5 (unfed_protocol t5 x5 h5) in
       subst (λ (n : ℕ). n < length s) (f1 ∙ f2 ∙ f3 ∙ f4 ∙ f5) fed
 
-  to_is : to ≡ m6 + suc (run not_feed (drop m6 s))
+  to_is : to ≡ m6 + suc (prefix_len not_feed (drop m6 s))
   to_is = let n = near in omega (arith, end, n)
 
   d6 : drop m6 s ≡ up_to_feed s m6 ++ (10 ∷ drop to s)
   d6 =
-      let k : ℕ = run not_feed (drop m6 s) in
+      let k : ℕ = prefix_len not_feed (drop m6 s) in
       split_feed (drop m6 s) (let n = near in let f = length-drop m6 s in omega (arith, n, f))
       ∙ ap (λ (t : List ℕ). up_to_feed s m6 ++ (10 ∷ t)) (drop-drop (suc k) m6 s ∙ ap (λ (m : ℕ). drop m s) (sym to_is))
 
@@ -237,7 +236,7 @@ module _
       }
 
 module _ (code : List ℕ → Option ℕ) (s : List ℕ) (l at : ℕ) where
-  pub line_only : (rule : Rule) (to : ℕ) → line_at code s l at ≡ good rule to → at + run not_feed (drop at s) < length s → LineRead code s l at to rule
+  pub line_only : (rule : Rule) (to : ℕ) → line_at code s l at ≡ good rule to → at + prefix_len not_feed (drop at s) < length s → LineRead code s l at to rule
   line_only rule to e fed =
       let q = with_good code s l (ranges_at s l at) rule to e in
       let r1 = then_got (address_at s (spot l 1) at) _ rule.ranges q.from q.ranges in
@@ -251,9 +250,9 @@ module _ (code : List ℕ → Option ℕ) (s : List ℕ) (l at : ℕ) where
       let t4 = port_only s (spot l 4) r3.1.0 r4.1.0 r4.0 r4.1.1.0 in
       let t5 = protocol_only s (spot l 5) r4.1.0 r5.1.0 r5.0 r5.1.1.0 in
       let same = got_same (r1.0 ∷ r2.0 ∷ r3.0 ∷ r4.0 ∷ r5.0 ∷ []) rule.ranges r5.1.0 q.from r5.1.1.1 in
-      line_whole code s l at r1.1.0 r2.1.0 r3.1.0 r4.1.0 r5.1.0 to t1.0 t2.0 t3.0 t4.0 t5.0 r1.0 r2.0 r3.0 r4.0 r5.0 rule
-      t1.1.1 t2.1.1 t3.1.1 t4.1.1 t5.1.1 t1.1.2 t2.1.2 t3.1.2 t4.1.2 t5.1.2
-      t1.1.0 t2.1.0 t3.1.0 t4.1.0 t5.1.0 (sym same.0)
+      line_whole code s l at r1.1.0 r2.1.0 r3.1.0 r4.1.0 r5.1.0 to t1.text t2.text t3.text t4.text t5.text r1.0 r2.0 r3.0 r4.0 r5.0 rule
+      t1.bytes t2.bytes t3.bytes t4.bytes t5.bytes t1.end t2.end t3.end t4.end t5.end
+      t1.right t2.right t3.right t4.right t5.right (sym same.0)
       (ap (λ (m : ℕ). code (up_to_feed s m)) same.1 ∙ q.word)
-      (q.end ∙ ap (λ (m : ℕ). min (m + run not_feed (drop m s) + 1) (length s)) (sym same.1)) fed
+      (q.end ∙ ap (λ (m : ℕ). min (m + prefix_len not_feed (drop m s) + 1) (length s)) (sym same.1)) fed
       (q.ranges ∙ ap (got rule.ranges) (sym same.1))

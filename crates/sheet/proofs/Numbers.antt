@@ -1,34 +1,28 @@
 -- A number in decimal is a token.
-use Rattle.std.proofs.Common.{◌≡◌, ℕ, suc, ◌+◌, ◌<◌, Bool, true, false, cond, eqb, List, [], ◌∷◌, ◌++◌, length, get_or, take, drop, Some, None, decimal, sym, refl, ap, ◌∙◌, inl, inr, arith}
+use Rattle.std.proofs.Common.{◌≡◌, ℕ, suc, ◌+◌, ◌<◌, Bool, true, false, cond, eqb, List, [], ◌∷◌, ◌++◌, length, get_or, take, drop, Some, None, decimal, sym, refl, ap, ◌∙◌, inl, inr, arith, one-add}
 use Rattle.std.specs.Str.Parse.{AllDigits}
 use Rattle.std.specs.Char.{digit_value}
 use Rattle.std.proofs.lemmas.Bool.{le-leb, and_from, or_left, or_right, ne_eqb, not_from_false, cases_lt, eq-eqb}
 use Rattle.std.proofs.lemmas.Bool.Decides.{nat_tests}
 use Rattle.std.proofs.lemmas.Fmt.{decimal_is_IsNumeral, length-decimal-le, first_decimal, decimal_digit}
 use Rattle.std.proofs.lemmas.List.{take_at, drop-drop, drop_at}
-use Rattle.sheet.specs.declared.tokens.Begins.{Begins}
-use Rattle.sheet.specs.declared.tokens.Begins.TheVariants.{Number}
-use Rattle.sheet.specs.Tokens.{run, is_digit, begins, token, begun, number, well_made, digits_of}
+use Rattle.std.specs.List.{prefix_len}
+use Rattle.sheet.specs.Tokens.{is_digit, token, number, number_if_made, well_made, digits_of}
+use Rattle.sheet.proofs.Taking.{token_number}
 
 is_digit_from : (b : ℕ) → digit_value b < 10 → is_digit b ≡ true
 is_digit_from b h = grind (arith, nat_tests)
 
-begins_digit : (b : ℕ) → is_digit b ≡ true → begins b ≡ Number
-begins_digit b e = rw e
-
-run_over : (ds rest : List ℕ) → AllDigits 10 ds → is_digit (get_or rest 0 0) ≡ false → run is_digit (ds ++ rest) ≡ length ds
+run_over : (ds rest : List ℕ) → AllDigits 10 ds → is_digit (get_or rest 0 0) ≡ false → prefix_len is_digit (ds ++ rest) ≡ length ds
 run_over [] [] h e = refl
 run_over [] (b ∷ bs) h e = rw e
-run_over (d ∷ ds) rest h e = rw (is_digit_from d h.0) (ap suc (run_over ds rest h.1 e))
+run_over (d ∷ ds) rest h e = rw (is_digit_from d h.0, one-add) (ap suc (run_over ds rest h.1 e))
 
 pub token_digits : (ds rest : List ℕ) → AllDigits 10 ds → 0 < length ds → well_made ds ≡ true → is_digit (get_or rest 0 0) ≡ false → token (ds ++ rest) ≡ Some (number ds)
-unfolding token
 token_digits [] rest h some w e = absurd (omega arith)
 token_digits (d ∷ ds) rest h some w e =
     let q : digits_of ((d ∷ ds) ++ rest) ≡ d ∷ ds = ap (λ (k : ℕ). take k ((d ∷ ds) ++ rest)) (run_over (d ∷ ds) rest h e) ∙ take_at (d ∷ ds) rest (length (d ∷ ds)) refl in
-    ap (λ (g : Begins). begun g ((d ∷ ds) ++ rest)) (begins_digit d (is_digit_from d h.0))
-    ∙ ap (λ (x : List ℕ). cond (well_made x) (Some (number x)) None) q
-    ∙ ap (λ (v : Bool). cond v (Some (number (d ∷ ds))) None) w
+    token_number ((d ∷ ds) ++ rest) (is_digit_from d h.0) ∙ ap number_if_made q ∙ ap (λ (v : Bool). cond v (Some (number (d ∷ ds))) None) w
 
 pub decimal_made : (n : ℕ) → n < 100000 → well_made (decimal n) ≡ true
 decimal_made n h = and_from _ _ (le-leb _ _ (length-decimal-le 5 n (omega arith) (omega arith) (omega arith)))

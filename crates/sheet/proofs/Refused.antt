@@ -1,5 +1,5 @@
 -- Where the reading of a sheet stops.
-use Rattle.std.proofs.Common.{◌≡◌, ℕ, zero, suc, ◌+◌, ◌<◌, ◌≤◌, min, Bool, cond, eqb, List, [], ◌∷◌, ◌++◌, length, take, drop, Some, None, Ok, Err, Option, Result, sym, refl, ap, ◌∙◌, subst, inl, inr, append_assoc, append-nil, arith, length-append, length-drop, length-take}
+use Rattle.std.proofs.Common.{◌≡◌, ℕ, zero, suc, ◌+◌, ◌<◌, ◌≤◌, min, Bool, cond, eqb, List, [], ◌∷◌, ◌++◌, length, take, drop, Some, None, Ok, Err, Option, Result, sym, refl, ap, ◌∙◌, subst, inl, inr, append_assoc, append-nil, arith, length-append, length-drop, length-take, one-add}
 use Rattle.std.proofs.lemmas.List.{take_at, take-append-drop}
 use Rattle.std.proofs.lemmas.Bool.{cases_lt, lt-leb, cases_Bool, not-true, eqb-false}
 use Rattle.policy.specs.declared.rules.Range.{Range}
@@ -8,46 +8,46 @@ use Rattle.policy.specs.Letters.{Lacks}
 use Rattle.faults.specs.declared.Spot.{Spot}
 use Rattle.faults.specs.declared.SheetFault.{SheetFault}
 use Rattle.faults.specs.declared.SheetFault.TheVariants.{TooLong, NoPlace, NoLineFeed, Field, NoWord}
-use Rattle.sheet.specs.Tokens.{run}
-use Rattle.sheet.specs.Forms.{Read, got, fault}
+use Rattle.std.specs.List.{prefix_len}
+use Rattle.sheet.specs.Forms.{position, Read, got, fault}
 use Rattle.sheet.specs.Lines.{spot, ranges_at}
 use Rattle.sheet.specs.Sheets.{not_feed, up_to_feed, Lined, good, bad, decided, with_decision, line_at, Answer, Answers, stopped, next_line, lines_at, sheet_says}
 use Rattle.sheet.specs.Meaning.{Line, Means, nothing, line}
 use Rattle.sheet.specs.Refusing.{Wordless, Wrong, StopsAt, Stopped, RefusesRightly, RefusalsRight}
 use Rattle.sheet.proofs.LinesRead.{LineRead, line_only, got_same}
 use Rattle.sheet.proofs.MeansRead.{never}
-use Rattle.sheet.proofs.Taking.{length_run}
+use Rattle.std.proofs.lemmas.List.Folds.{length-prefix_len}
 use Rattle.sheet.proofs.WrongFields.{ranges_wrong}
 use Rattle.sheet.proofs.Turns.{clean, at_end, no_place, on_line, no_feed, says}
 
 -- Where the line feed is missing there is none.
-first_other : (b : ℕ) (bs : List ℕ) → length (b ∷ bs) ≤ run not_feed (b ∷ bs) → (b ≡ 10 → ⊥) × (length bs ≤ run not_feed bs)
+first_other : (b : ℕ) (bs : List ℕ) → length (b ∷ bs) ≤ prefix_len not_feed (b ∷ bs) → (b ≡ 10 → ⊥) × (length bs ≤ prefix_len not_feed bs)
 first_other b bs h =
     elim (cases_Bool (not_feed b)) [
-      | inl w ↦ let n : run not_feed (b ∷ bs) ≡ suc (run not_feed bs) = rw w in (eqb-false b 10 (not-true (eqb b 10) w), omega (arith, n))
-      | inr w ↦ let n : run not_feed (b ∷ bs) ≡ 0 = rw w in absurd (omega (arith, n))
+      | inl w ↦ let n : prefix_len not_feed (b ∷ bs) ≡ suc (prefix_len not_feed bs) = rw (w, one-add) in (eqb-false b 10 (not-true (eqb b 10) w), omega (arith, n))
+      | inr w ↦ let n : prefix_len not_feed (b ∷ bs) ≡ 0 = rw w in absurd (omega (arith, n))
     ]
 
-unfed_lacks : (bs : List ℕ) → length bs ≤ run not_feed bs → Lacks 10 bs
+unfed_lacks : (bs : List ℕ) → length bs ≤ prefix_len not_feed bs → Lacks 10 bs
 unfed_lacks [] h k l e = absurd (omega arith)
 unfed_lacks (b ∷ bs) h zero l e = (first_other b bs h).0 e
 unfed_lacks (b ∷ bs) h (suc k) l e = unfed_lacks bs (first_other b bs h).1 k (omega arith) e
 
 -- The five fields of a line were read, and its word is not one of the kind.
-decided_bad : (r : List Range) (p : Spot) (at end : ℕ) (o : Option ℕ) (e : SheetFault) → decided r p at end o ≡ bad e → (o ≡ None) × (e ≡ NoWord at p)
-decided_bad r p at end None e h = let q : NoWord at p ≡ e = cc in (refl, sym q)
-decided_bad r p at end (Some c) e h = let z : ◌≡◌ {A = ℕ} 0 1 = cc in absurd (omega arith)
+decided_bad : (r : List Range) (p : Spot) (at end : ℕ) (o : Option ℕ) (e : SheetFault) → decided r p at end o ≡ bad e → (o ≡ None) × (e ≡ NoWord (position at p))
+decided_bad r p at end None e h = let q : NoWord (position at p) ≡ e = cc in (refl, sym q)
+decided_bad r p at end (Some c) e h = absurd (cc)
 
-module _ (code : List ℕ → Option ℕ) (s : List ℕ) (places count from : ℕ) (room : count < places) (fed : from + run not_feed (drop from s) < length s) where
+module _ (code : List ℕ → Option ℕ) (s : List ℕ) (places count from : ℕ) (room : count < places) (fed : from + prefix_len not_feed (drop from s) < length s) where
   wordless : (r : List Range) (at : ℕ) → ranges_at s (count + 1) from ≡ got r at → code (up_to_feed s at) ≡ None → Wordless code s from at
   wordless r at e none =
       let rule : Rule = record { ranges = r; code = 0 } in
-      let to : ℕ = min (at + run not_feed (drop at s) + 1) (length s) in
+      let to : ℕ = min (at + prefix_len not_feed (drop at s) + 1) (length s) in
       let q : LineRead (λ w. Some 0) s (count + 1) from to rule = line_only (λ w. Some 0) s (count + 1) from rule to (ap (with_decision (λ w. Some 0) s (count + 1)) e) fed in
       let is_at : q.from ≡ at = (got_same r r q.from at (sym q.read ∙ e)).1 in
       let word : q.means.parts.word ≡ up_to_feed s at = q.word_is ∙ ap (up_to_feed s) is_at in
-      let size : length q.means.parts.word ≡ run not_feed (drop at s) = ap length word ∙ length_run not_feed (drop at s) in
-      let after : to ≡ at + suc (run not_feed (drop at s)) = q.after ∙ ap (λ (m : ℕ). m + suc (run not_feed (drop m s))) is_at in
+      let size : length q.means.parts.word ≡ prefix_len not_feed (drop at s) = ap length word ∙ length-prefix_len not_feed (drop at s) in
+      let after : to ≡ at + suc (prefix_len not_feed (drop at s)) = q.after ∙ ap (λ (m : ℕ). m + suc (prefix_len not_feed (drop m s))) is_at in
       record {
         rule = rule;
         text = q.text;
@@ -61,7 +61,7 @@ module _ (code : List ℕ → Option ℕ) (s : List ℕ) (places count from : �
   wrong_line : (x : Read (List Range)) → ranges_at s (count + 1) from ≡ x → (e : SheetFault) → with_decision code s (count + 1) x ≡ bad e → Wrong code s places count from e
   wrong_line (fault f) h e b = let q : Field f ≡ e = cc in subst (Wrong code s places count from) q (room, ranges_wrong s (count + 1) from f h)
   wrong_line (got r at) h e b =
-      let q = decided_bad r (spot (count + 1) 6) at (min (at + run not_feed (drop at s) + 1) (length s)) (code (up_to_feed s at)) e b in
+      let q = decided_bad r (spot (count + 1) 6) at (min (at + prefix_len not_feed (drop at s) + 1) (length s)) (code (up_to_feed s at)) e b in
       subst (Wrong code s places count from) (sym q.1) (room, refl, wordless r at h q.0)
 
 -- One more line.
@@ -91,7 +91,7 @@ module _ (code : List ℕ → Option ℕ) (s : List ℕ) (places : ℕ) where
   halts_clean : (done : List Rule) → Halts done clean
   halts_clean done e q = never e (sym q)
 
-  line_halts : (m at : ℕ) (done : List Rule) (x : Lined Rule) → line_at code s (length done + 1) at ≡ x → at < length s → at + run not_feed (drop at s) < length s → Means (Line code) (take at s) done → length done < places →
+  line_halts : (m at : ℕ) (done : List Rule) (x : Lined Rule) → line_at code s (length done + 1) at ≡ x → at < length s → at + prefix_len not_feed (drop at s) < length s → Means (Line code) (take at s) done → length done < places →
       ((to : ℕ) (more : List Rule) → Means (Line code) (take to s) more → length more ≡ length done + 1 → Halts more (lines_at (line_at code) s m (length done + 1 + 1) to)) →
       Halts done (next_line (λ to. lines_at (line_at code) s m (length done + 1 + 1) to) x)
   line_halts m at done (bad f) e h fed means room rec = halts_here done at f means h (wrong_line code s places (length done) at room fed (ranges_at s (length done + 1) at) refl f e)
@@ -112,7 +112,7 @@ module _ (code : List ℕ → Option ℕ) (s : List ℕ) (places : ℕ) where
   lines_halt (suc m) at done l is means room =
       elim (cases_lt at (length s)) [
         | inl h ↦
-            elim (cases_lt (at + run not_feed (drop at s)) (length s)) [
+            elim (cases_lt (at + prefix_len not_feed (drop at s)) (length s)) [
               | inl fed ↦
                   subst (Halts done) (sym (on_line (line_at code) s l at (suc m) m refl h fed ∙ ap (λ (k : ℕ). next_line (λ to. lines_at (line_at code) s m (k + 1) to) (line_at code s k at)) is))
                   (line_halts m at done (line_at code s (length done + 1) at) refl h fed means (omega arith)
@@ -137,7 +137,7 @@ as_stopped code s was is TooLong h = absurd h.stops.wrong
 as_stopped code s was is (NoPlace at l) h = h
 as_stopped code s was is (NoLineFeed at l) h = h
 as_stopped code s was is (Field f) h = h
-as_stopped code s was is (NoWord at p) h = h
+as_stopped code s was is (NoWord at) h = h
 
 short : (code : List ℕ → Option ℕ) (s : List ℕ) (was is : List Rule) (e : SheetFault) → length s ≤ 8192 → Answers (sheet_says (line_at code) s (length was)) was is (Err e) → RefusesRightly code s was is e
 short code s was is e h a =

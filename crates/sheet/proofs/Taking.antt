@@ -1,100 +1,100 @@
--- What is known of the token that begins at a byte.
-use Rattle.std.proofs.Common.{◌≡◌, ℕ, zero, suc, ◌+◌, ◌-◌, ◌^◌, ◌<◌, ◌≤◌, Bool, true, false, cond, List, [], ◌∷◌, length, get_or, take, drop, Some, None, inl, inr, sym, refl, ap, ◌∙◌, subst, zero-lt-suc, arith, length-take, drop-cons}
+-- What is known of the token that begins some bytes.
+use Rattle.std.proofs.Common.{◌≡◌, ℕ, zero, suc, ◌+◌, ◌*◌, ◌-◌, ◌^◌, ◌<◌, ◌≤◌, Bool, true, false, cond, List, [], ◌∷◌, length, get_or, take, Some, None, Option, inl, inr, sym, refl, ap, ◌∙◌, zero-lt-suc, arith, length-take, one-add}
 use Rattle.std.proofs.Math.Nat.{pow-le-pow_right}
+use Rattle.std.specs.List.{list_all, take_while}
 use Rattle.std.specs.Str.Parse.{AllDigits, digits_value}
 use Rattle.std.specs.Char.{digit_value}
-use Rattle.std.proofs.lemmas.Int.Digits.{digits_value-lt}
-use Rattle.std.proofs.lemmas.Bool.{leb-true, and_parts, cases_Bool}
+use Rattle.std.proofs.lemmas.Int.Digits.{digits_value-lt, digits_value_more}
+use Rattle.std.proofs.lemmas.List.Folds.{list_all_at}
+use Rattle.std.proofs.lemmas.List.Sums.{prefix_len-le-length}
+use Rattle.std.proofs.lemmas.List.Folds.{length-prefix_len}
+use Rattle.std.proofs.lemmas.Bool.{cases_Bool, and_parts}
 use Rattle.std.proofs.lemmas.Bool.Decides.{nat_tests}
-use Rattle.sheet.specs.declared.tokens.Begins.{Begins}
-use Rattle.sheet.specs.declared.tokens.Begins.TheVariants.{Number, Word}
-use Rattle.sheet.specs.Tokens.{run, is_digit, is_letter, begins, token, begun, number, word, well_made, digits_of}
-use Rattle.sheet.proofs.Runs.{run_le}
+use Rattle.sheet.specs.declared.tokens.Mark.{Mark}
+use Rattle.sheet.specs.Tokens.{is_digit, is_letter, mark_of, as_mark, number_if_made, token, Tok, number, word, mark, size, well_made, digits_of, letters_of}
 
-pub digit_value_small : (b : ℕ) → is_digit b ≡ true → digit_value b < 10
+-- A run of digits is made of digits.
+pub run_of_digits : (bs : List ℕ) → list_all is_digit (take_while is_digit bs) ≡ true
+run_of_digits [] = refl
+run_of_digits (b ∷ bs) = elim (cases_Bool (is_digit b)) [ inl e ↦ rw (e, one-add, e) (run_of_digits bs) | inr e ↦ rw e refl ]
+
+digit_value_small : (b : ℕ) → is_digit b ≡ true → digit_value b < 10
 digit_value_small b e = grind (arith, nat_tests)
 
-pub digits_digits : (bs : List ℕ) → AllDigits 10 (digits_of bs)
-digits_digits [] = tt
-digits_digits (b ∷ bs) =
-    elim (cases_Bool (is_digit b)) [
-      | inl e ↦ rw e (digit_value_small b e, digits_digits bs)
-      | inr e ↦ rw e tt
+pub all_digits : (ds : List ℕ) → list_all is_digit ds ≡ true → AllDigits 10 ds
+all_digits [] e = tt
+all_digits (d ∷ ds) e = let q = and_parts (is_digit d) (list_all is_digit ds) e in (digit_value_small d q.0, all_digits ds q.1)
+
+-- The token by its first byte.
+pub token_number : (bs : List ℕ) → is_digit (get_or bs 0 0) ≡ true → token bs ≡ number_if_made (digits_of bs)
+unfolding token
+token_number bs e = rw e
+
+pub token_word : (bs : List ℕ) → is_digit (get_or bs 0 0) ≡ false → is_letter (get_or bs 0 0) ≡ true → token bs ≡ Some (word (letters_of bs))
+unfolding token
+token_word bs e f = rw (e, f)
+
+pub token_other : (bs : List ℕ) → is_digit (get_or bs 0 0) ≡ false → is_letter (get_or bs 0 0) ≡ false → token bs ≡ as_mark (mark_of (get_or bs 0 0))
+unfolding token
+token_other bs e f = rw (e, f)
+
+pub token_none : token [] ≡ None
+unfolding token
+token_none = refl
+
+-- A token lies within the bytes that it begins.
+made_size : (ds : List ℕ) (t : Tok) → number_if_made ds ≡ Some t → size t ≡ length ds
+made_size ds t e =
+    elim (cases_Bool (well_made ds)) [
+      | inl w ↦ let f : Some (number ds) ≡ Some t = ap (λ (v : Bool). cond v (Some (number ds)) None) (sym w) ∙ e in let q : t ≡ number ds = cc in ap size q
+      | inr w ↦ let f : None ≡ Some t = ap (λ (v : Bool). cond v (Some (number ds)) None) (sym w) ∙ e in absurd (cc)
     ]
 
-pub digit_begins : (b : ℕ) → begins b ≡ Number → is_digit b ≡ true
-digit_begins b e = grind (arith, nat_tests)
+mark_size : (o : Option Mark) (t : Tok) → as_mark o ≡ Some t → size t ≡ 1
+mark_size None t e = absurd (cc)
+mark_size (Some m) t e = let q : t ≡ mark m = cc in ap size q
 
-pub run_some : (p : ℕ → Bool) (s : List ℕ) (i : ℕ) → i < length s → p (get_or s i 0) ≡ true → 0 < run p (drop i s)
-run_some p s i h e = rw (drop-cons s i 0 h, e) (omega arith)
-
-pub first_at : (s : List ℕ) (i : ℕ) → i < length s → get_or (drop i s) 0 0 ≡ get_or s i 0
-first_at s i h = rw (drop-cons s i 0 h)
-
-pub drop_past : (s : List ℕ) (i : ℕ) → length s ≤ i → drop i s ≡ []
-drop_past [] zero h = refl
-drop_past [] (suc i) h = refl
-drop_past (b ∷ bs) zero h = absurd (omega arith)
-drop_past (b ∷ bs) (suc i) h = drop_past bs i (omega arith)
-
-pub token_past : (s : List ℕ) (i : ℕ) → length s ≤ i → token (drop i s) ≡ None
-unfolding token
-token_past s i h = rw (drop_past s i h)
-
-pub token_at : (s : List ℕ) (i : ℕ) (g : Begins) → i < length s → g ≡ begins (get_or s i 0) → token (drop i s) ≡ begun g (drop i s)
-unfolding token
-token_at s i g h e = ap (λ (x : ℕ). begun (begins x) (drop i s)) (first_at s i h) ∙ ap (λ (x : Begins). begun x (drop i s)) (sym e)
-
-pub part_is : (p : ℕ → Bool) (s : List ℕ) (i j : ℕ) → j ≡ i + run p (drop i s) → take (j - i) (drop i s) ≡ take (run p (drop i s)) (drop i s)
-part_is p s i j e = let q : j - i ≡ run p (drop i s) = omega arith in ap (λ (k : ℕ). take k (drop i s)) q
-
-pub length_run : (p : ℕ → Bool) (bs : List ℕ) → length (take (run p bs) bs) ≡ run p bs
-length_run p bs = simp length-take (omega (arith, run_le p bs))
+pub size_fits : (bs : List ℕ) (t : Tok) → token bs ≡ Some t → size t ≤ length bs
+size_fits [] t e = let z : None ≡ Some t = sym token_none ∙ e in absurd (cc)
+size_fits (b ∷ bs) t e =
+    elim (cases_Bool (is_digit b)) [
+      | inl d ↦ omega (arith, made_size (digits_of (b ∷ bs)) t (sym (token_number (b ∷ bs) d) ∙ e), length-prefix_len is_digit (b ∷ bs), prefix_len-le-length is_digit (b ∷ bs))
+      | inr d ↦
+          elim (cases_Bool (is_letter b)) [
+            | inl l ↦
+                let f : Some (word (letters_of (b ∷ bs))) ≡ Some t = sym (token_word (b ∷ bs) d l) ∙ e in
+                let q : t ≡ word (letters_of (b ∷ bs)) = cc in
+                omega (arith, ap size q, length-prefix_len is_letter (b ∷ bs), prefix_len-le-length is_letter (b ∷ bs))
+            | inr l ↦ omega (arith, mark_size (mark_of b) t (sym (token_other (b ∷ bs) d l) ∙ e))
+          ]
+    ]
 
 pub digit_is : (b : ℕ) → digit_value b < 10 → (48 ≤ b) × (digit_value b ≡ b - 48)
 digit_is b h = grind (arith, nat_tests)
 
-digits_take : (ds : List ℕ) (i : ℕ) → AllDigits 10 ds → AllDigits 10 (take i ds)
-digits_take [] zero h = tt
-digits_take [] (suc i) h = tt
-digits_take (d ∷ ds) zero h = tt
-digits_take (d ∷ ds) (suc i) h = (h.0, digits_take ds i h.1)
+digit_at : (ds : List ℕ) (i : ℕ) → list_all is_digit ds ≡ true → i < length ds → is_digit (get_or ds i 0) ≡ true
+digit_at ds i all inside =
+    elim (cases_Bool (is_digit (get_or ds i 0))) [ inl e ↦ e | inr e ↦ let f = list_all_at is_digit ds i 0 inside e in absurd (cc (all, f)) ]
 
-pub digit_of : (ds : List ℕ) (i : ℕ) → AllDigits 10 ds → i < length ds → digit_value (get_or ds i 0) < 10
-digit_of [] i h l = absurd (omega arith)
-digit_of (d ∷ ds) zero h l = h.0
-digit_of (d ∷ ds) (suc i) h l = digit_of ds i h.1 (omega arith)
+-- One more digit of a number.
+pub record Step (ds : List ℕ) (i : ℕ) : Type 0 where
+  pub least : 48 ≤ get_or ds i 0
+  pub most : get_or ds i 0 ≤ 57
+  pub small : digits_value 10 (take i ds) < 10000
+  pub next : digits_value 10 (take (i + 1) ds) ≡ 10 * digits_value 10 (take i ds) + (get_or ds i 0 - 48)
 
-pub partial : (ds : List ℕ) (i : ℕ) → length ds ≤ 5 → AllDigits 10 ds → i < length ds → digits_value 10 (take i ds) < 10000
-partial ds i five h l =
-    let b = digits_value-lt 10 (take i ds) (digits_take ds i h) in
+take_digits : (ds : List ℕ) (i : ℕ) → AllDigits 10 ds → AllDigits 10 (take i ds)
+take_digits [] zero h = tt
+take_digits [] (suc i) h = tt
+take_digits (d ∷ ds) zero h = tt
+take_digits (d ∷ ds) (suc i) h = (h.0, take_digits ds i h.1)
+
+pub number_step : (ds : List ℕ) (i : ℕ) → length ds ≤ 5 → list_all is_digit ds ≡ true → i < length ds → Step ds i
+number_step ds i few all inside =
+    let b : ℕ = get_or ds i 0 in
+    let d : is_digit b ≡ true = digit_at ds i all inside in
+    let bounds : (48 ≤ b) × (b ≤ 57) × (digit_value b ≡ b - 48) = grind (arith, nat_tests) in
+    let lt = digits_value-lt 10 (take i ds) (take_digits ds i (all_digits ds all)) in
     let e : length (take i ds) ≡ i = simp length-take (omega arith) in
     let m : 10 ^ i ≤ 10 ^ 4 = let k : i ≤ 4 = omega arith in pow-le-pow_right (zero-lt-suc 9) k in
-    omega (arith, rw e at b)
-
-module _ (s : List ℕ) (at end : ℕ) (inside : at < length s) where
-  pub number_some : Number ≡ begins (get_or s at 0) → end ≡ at + run is_digit (drop at s) → 0 < length (take (end - at) (drop at s))
-  number_some b e =
-      rw (part_is is_digit s at end e, length_run is_digit (drop at s)) (run_some is_digit s at inside (digit_begins (get_or s at 0) (sym b)))
-
-  pub number_ill : Number ≡ begins (get_or s at 0) → end ≡ at + run is_digit (drop at s) → false ≡ well_made (take (end - at) (drop at s)) → token (drop at s) ≡ None
-  number_ill b e w =
-      token_at s at Number inside b ∙ ap (λ (v : Bool). cond v (Some (number (digits_of (drop at s)))) None) (sym (w ∙ ap well_made (part_is is_digit s at end e)))
-
-  pub number_made : Number ≡ begins (get_or s at 0) → end ≡ at + run is_digit (drop at s) → true ≡ well_made (take (end - at) (drop at s)) →
-      (token (drop at s) ≡ Some (number (take (end - at) (drop at s)))) × (end ≡ at + length (take (end - at) (drop at s))) × ((length (take (end - at) (drop at s)) ≤ 5) × AllDigits 10 (take (end - at) (drop at s)))
-  number_made b e w =
-      let q = part_is is_digit s at end e in (
-        token_at s at Number inside b ∙ ap (λ (v : Bool). cond v (Some (number (digits_of (drop at s)))) None) (sym (w ∙ ap well_made q)) ∙ ap (λ (ds : List ℕ). Some (number ds)) (sym q),
-        e ∙ ap (λ n. at + n) (sym (ap length q ∙ length_run is_digit (drop at s))),
-        (leb-true _ _ (and_parts _ _ (sym w)).0, subst (AllDigits 10) (sym q) (digits_digits (drop at s))),
-      )
-
-  pub word_made : Word ≡ begins (get_or s at 0) → end ≡ at + run is_letter (drop at s) →
-      (token (drop at s) ≡ Some (word (take (end - at) (drop at s)))) × (end ≡ at + length (take (end - at) (drop at s))) × Unit {0}
-  word_made b e =
-      let q = part_is is_letter s at end e in (
-        token_at s at Word inside b ∙ ap (λ (ds : List ℕ). Some (word ds)) (sym q),
-        e ∙ ap (λ n. at + n) (sym (ap length q ∙ length_run is_letter (drop at s))),
-        tt,
-      )
+    record { least = bounds.0; most = bounds.1; small = omega (arith, rw e at lt); next = omega (arith, bounds.2, digits_value_more 10 ds i inside) }

@@ -4,8 +4,8 @@ use Rattle.std.proofs.lemmas.Bool.{le-leb, lt-leb}
 use Rattle.std.proofs.lemmas.List.{take_more_set, drop-set-lt, drop-drop}
 use Rattle.faults.specs.declared.SheetFault.{SheetFault}
 use Rattle.faults.specs.declared.SheetFault.TheVariants.{TooLong, NoPlace, NoLineFeed}
-use Rattle.sheet.specs.Tokens.{run}
-use Rattle.sheet.specs.Sheets.{Answer, Answers, stopped, before, next_line, lines_at, sheet_says, not_feed, good, bad, Lined}
+use Rattle.std.specs.List.{prefix_len}
+use Rattle.sheet.specs.Sheets.{Answer, Answers, stopped, before, next_line, lines_at, sheet_says, not_feed, HasFeed, LacksFeed, good, bad, Lined}
 
 abbrev pub prefixed : {A : Type 0} → List A → Answer A → Answer A
 prefixed rs a = record { entries = rs ++ a.entries; stop = a.stop }
@@ -45,18 +45,18 @@ module _ {A : Type 0} (line : List ℕ → ℕ → ℕ → Lined A) (s : List �
   pub no_place : (j : ℕ) → j ≡ 0 → at < length s → lines_at line s j l at ≡ stopped (NoPlace at l)
   no_place j z h = ap (λ (x : ℕ). lines_at line s x l at) z ∙ ap (λ (b : Bool). cond b clean (stopped (NoPlace at l))) (lt-leb (length s) at h)
 
-  pub on_line : (j m : ℕ) → j ≡ suc m → at < length s → at + run not_feed (drop at s) < length s →
+  pub on_line : (j m : ℕ) → j ≡ suc m → at < length s → at + prefix_len not_feed (drop at s) < length s →
       lines_at line s j l at ≡ next_line (λ to. lines_at line s m (l + 1) to) (line s l at)
   on_line j m z h f =
       ap (λ (x : ℕ). lines_at line s x l at) z
-      ∙ ap (λ (b : Bool). cond b clean (cond (leb (length s) (at + run not_feed (drop at s))) (stopped (NoLineFeed (length s) l)) (next_line (λ to. lines_at line s m (l + 1) to) (line s l at)))) (lt-leb (length s) at h)
-      ∙ ap (λ (b : Bool). cond b (stopped (NoLineFeed (length s) l)) (next_line (λ to. lines_at line s m (l + 1) to) (line s l at))) (lt-leb (length s) (at + run not_feed (drop at s)) f)
+      ∙ ap (λ (b : Bool). cond b clean (cond (leb (length s) (at + prefix_len not_feed (drop at s))) (stopped (NoLineFeed (length s) l)) (next_line (λ to. lines_at line s m (l + 1) to) (line s l at)))) (lt-leb (length s) at h)
+      ∙ ap (λ (b : Bool). cond b (stopped (NoLineFeed (length s) l)) (next_line (λ to. lines_at line s m (l + 1) to) (line s l at))) (lt-leb (length s) (at + prefix_len not_feed (drop at s)) f)
 
-  pub no_feed : (j m : ℕ) → j ≡ suc m → at < length s → length s ≤ at + run not_feed (drop at s) → lines_at line s j l at ≡ stopped (NoLineFeed (length s) l)
+  pub no_feed : (j m : ℕ) → j ≡ suc m → at < length s → length s ≤ at + prefix_len not_feed (drop at s) → lines_at line s j l at ≡ stopped (NoLineFeed (length s) l)
   no_feed j m z h f =
       ap (λ (x : ℕ). lines_at line s x l at) z
-      ∙ ap (λ (b : Bool). cond b clean (cond (leb (length s) (at + run not_feed (drop at s))) (stopped (NoLineFeed (length s) l)) (next_line (λ to. lines_at line s m (l + 1) to) (line s l at)))) (lt-leb (length s) at h)
-      ∙ ap (λ (b : Bool). cond b (stopped (NoLineFeed (length s) l)) (next_line (λ to. lines_at line s m (l + 1) to) (line s l at))) (le-leb (length s) (at + run not_feed (drop at s)) f)
+      ∙ ap (λ (b : Bool). cond b clean (cond (leb (length s) (at + prefix_len not_feed (drop at s))) (stopped (NoLineFeed (length s) l)) (next_line (λ to. lines_at line s m (l + 1) to) (line s l at)))) (lt-leb (length s) at h)
+      ∙ ap (λ (b : Bool). cond b (stopped (NoLineFeed (length s) l)) (next_line (λ to. lines_at line s m (l + 1) to) (line s l at))) (le-leb (length s) (at + prefix_len not_feed (drop at s)) f)
 
 pub one_more : {A : Type 0} (is : List A) (n : ℕ) (r : A) (a : Answer A) → n < length is → prefixed (take n is) (before r a) ≡ prefixed (take (n + 1) (set is n r)) a
 one_more {A = A} is n r a h =
@@ -81,42 +81,43 @@ too_long {A = A} line s was h =
 pub not_too_long : {A : Type 0} (line : List ℕ → ℕ → ℕ → Lined A) (s : List ℕ) (was is : List A) (r : Result ℕ SheetFault) → length s ≤ 8192 → Answers (lines_at line s (min (length was) 64) 1 0) was is r → Answers (sheet_says line s (length was)) was is r
 not_too_long {A = A} line s was is r h a = subst (λ (x : Answer A). Answers x was is r) (sym (says line s (length was) h)) a
 
--- What the loop knows at the start of a turn, and how it ends.
-module _ {A : Type 0} (line : List ℕ → ℕ → ℕ → Lined A) (s s' : List ℕ) (was is : List A) (n at l : ℕ) (es : s' ≡ s) (el : l ≡ n + 1)
-    (few : n ≤ min (length was) 64) (long : length is ≡ length was) (d : drop n is ≡ drop n was)
-    (inv : lines_at line s (min (length was) 64) 1 0 ≡ prefixed (take n is) (lines_at line s (min (length was) 64 - n) (n + 1) at)) where
+-- What the loop over lines knows before line n + 1, which begins at byte `at`: what the lines before it say stands in
+-- the first n places.
+pub record Turn {A : Type 0} (line : List ℕ → ℕ → ℕ → Lined A) (s : List ℕ) (was is : List A) (n at : ℕ) : Type 0 where
+  pub kept : drop n is ≡ drop n was
+  pub so_far : lines_at line s (min (length was) 64) 1 0 ≡ prefixed (take n is) (lines_at line s (min (length was) 64 - n) (n + 1) at)
+
+-- How a turn ends.
+module _ {A : Type 0} (line : List ℕ → ℕ → ℕ → Lined A) (s : List ℕ) (was is : List A) (n at : ℕ) (turn : Turn line s was is n at) (few : n ≤ min (length was) 64) (long : length is ≡ length was) where
   ends : (a : Answer A) → lines_at line s (min (length was) 64 - n) (n + 1) at ≡ a → lines_at line s (min (length was) 64) 1 0 ≡ prefixed (take n is) a
-  ends a h = inv ∙ ap (prefixed (take n is)) h
-
-  pub exit_place : at < length s → min (length was) 64 - n ≡ 0 → Answers (lines_at line s (min (length was) 64) 1 0) was is (Err (NoPlace at l))
-  exit_place h z =
-      subst (λ (x : ℕ). Answers (lines_at line s (min (length was) 64) 1 0) was is (Err (NoPlace at x))) (sym el)
-      (ends_fault _ was is n (NoPlace at (n + 1)) (ends (stopped (NoPlace at (n + 1))) (no_place line s (n + 1) at _ z h)) d (omega arith))
-
-  pub exit_feed : at < length s → n < min (length was) 64 → length s ≤ at + run not_feed (drop at s') → Answers (lines_at line s (min (length was) 64) 1 0) was is (Err (NoLineFeed (length s) l))
-  exit_feed h k f =
-      let f' = subst (λ (t : List ℕ). length s ≤ at + run not_feed (drop at t)) es f in
-      let z : min (length was) 64 - n ≡ suc (min (length was) 64 - (n + 1)) = omega arith in
-      subst (λ (x : ℕ). Answers (lines_at line s (min (length was) 64) 1 0) was is (Err (NoLineFeed (length s) x))) (sym el)
-      (ends_fault _ was is n (NoLineFeed (length s) (n + 1)) (ends (stopped (NoLineFeed (length s) (n + 1))) (no_feed line s (n + 1) at _ (min (length was) 64 - (n + 1)) z h f')) d (omega arith))
-
-  line_here : (x : Lined A) → line s' l at ≡ x → line s (n + 1) at ≡ x
-  line_here x h = ap (λ (t : List ℕ). line t (n + 1) at) (sym es) ∙ ap (λ (m : ℕ). line s' m at) (sym el) ∙ h
-
-  on : at < length s → n < min (length was) 64 → at + run not_feed (drop at s') < length s → (x : Lined A) → line s' l at ≡ x →
-      lines_at line s (min (length was) 64 - n) (n + 1) at ≡ next_line (λ to. lines_at line s (min (length was) 64 - (n + 1)) (n + 1 + 1) to) x
-  on h k f x e =
-      let f' = subst (λ (t : List ℕ). at + run not_feed (drop at t) < length s) es f in
-      let z : min (length was) 64 - n ≡ suc (min (length was) 64 - (n + 1)) = omega arith in
-      on_line line s (n + 1) at _ (min (length was) 64 - (n + 1)) z h f' ∙ ap (next_line (λ to. lines_at line s (min (length was) 64 - (n + 1)) (n + 1 + 1) to)) (line_here x e)
-
-  pub exit_line : (e : SheetFault) → at < length s → n < min (length was) 64 → at + run not_feed (drop at s') < length s → line s' l at ≡ bad e →
-      Answers (lines_at line s (min (length was) 64) 1 0) was is (Err e)
-  exit_line e h k f b = ends_fault _ was is n e (ends (stopped e) (on h k f (bad e) b)) d (omega arith)
+  ends a h = turn.so_far ∙ ap (prefixed (take n is)) h
 
   pub exit_clean : length s ≤ at → Answers (lines_at line s (min (length was) 64) 1 0) was is (Ok n)
-  exit_clean h = ends_clean _ was is n (ends clean (at_end line s (n + 1) at _ h)) d (omega arith)
+  exit_clean h = ends_clean _ was is n (ends clean (at_end line s (n + 1) at _ h)) turn.kept (omega arith)
 
-  pub again : (r : A) (to : ℕ) → at < length s → n < min (length was) 64 → at + run not_feed (drop at s') < length s → line s' l at ≡ good r to →
-      lines_at line s (min (length was) 64) 1 0 ≡ prefixed (take (n + 1) (set is n r)) (lines_at line s (min (length was) 64 - (n + 1)) (n + 1 + 1) to)
-  again r to h k f b = inv ∙ ap (prefixed (take n is)) (on h k f (good r to) b) ∙ one_more is n r _ (omega arith)
+  pub exit_place : min (length was) 64 ≤ n → at < length s → Answers (lines_at line s (min (length was) 64) 1 0) was is (Err (NoPlace at (n + 1)))
+  exit_place full h = ends_fault _ was is n (NoPlace at (n + 1)) (ends (stopped (NoPlace at (n + 1))) (no_place line s (n + 1) at _ (omega arith) h)) turn.kept (omega arith)
+
+  -- The reader is in sheet `s'` at byte `at'` of line l, which are these.
+  module _ (s' : List ℕ) (at' l : ℕ) (es : s' ≡ s) (ea : at' ≡ at) (el : l ≡ n + 1) (h : at < length s) (room : n < min (length was) 64) where
+    one_place : min (length was) 64 - n ≡ suc (min (length was) 64 - (n + 1))
+    one_place = omega arith
+
+    pub exit_feed : LacksFeed s' at' → Answers (lines_at line s (min (length was) 64) 1 0) was is (Err (NoLineFeed (length s) (n + 1)))
+    exit_feed f =
+        let f' = subst (λ (t : List ℕ). LacksFeed t at) es (subst (LacksFeed s') ea f) in
+        ends_fault _ was is n (NoLineFeed (length s) (n + 1)) (ends (stopped (NoLineFeed (length s) (n + 1))) (no_feed line s (n + 1) at _ (min (length was) 64 - (n + 1)) one_place h f')) turn.kept (omega arith)
+
+    on : HasFeed s' at' → (x : Lined A) → line s' l at' ≡ x →
+        lines_at line s (min (length was) 64 - n) (n + 1) at ≡ next_line (λ to. lines_at line s (min (length was) 64 - (n + 1)) (n + 1 + 1) to) x
+    on f x e =
+        let f' = subst (λ (t : List ℕ). HasFeed t at) es (subst (HasFeed s') ea f) in
+        let here : line s (n + 1) at ≡ x = ap (λ (t : List ℕ). line t (n + 1) at) (sym es) ∙ ap (λ (m : ℕ). line s' m at) (sym el) ∙ ap (line s' l) (sym ea) ∙ e in
+        on_line line s (n + 1) at _ (min (length was) 64 - (n + 1)) one_place h f' ∙ ap (next_line (λ to. lines_at line s (min (length was) 64 - (n + 1)) (n + 1 + 1) to)) here
+
+    pub exit_line : (e : SheetFault) → HasFeed s' at' → line s' l at' ≡ bad e → Answers (lines_at line s (min (length was) 64) 1 0) was is (Err e)
+    exit_line e f b = ends_fault _ was is n e (ends (stopped e) (on f (bad e) b)) turn.kept (omega arith)
+
+    pub again : (r : A) (to : ℕ) → HasFeed s' at' → line s' l at' ≡ good r to → Turn line s was (set is n r) (n + 1) to
+    again r to f b =
+        record { kept = dropped is was n r turn.kept; so_far = turn.so_far ∙ ap (prefixed (take n is)) (on f (good r to) b) ∙ one_more is n r _ (omega arith) }

@@ -1,11 +1,11 @@
 -- Bytes without a line feed, and the line feed after them.
-use Rattle.std.proofs.Common.{◌≡◌, ℕ, suc, ◌+◌, ◌<◌, ◌≤◌, true, false, cond, eqb, List, [], ◌∷◌, ◌++◌, length, take, drop, decimal, sym, refl, ap, ◌∙◌, subst, inl, inr, arith}
+use Rattle.std.proofs.Common.{◌≡◌, ℕ, suc, ◌+◌, ◌<◌, ◌≤◌, true, false, cond, eqb, List, [], ◌∷◌, ◌++◌, length, take, drop, decimal, sym, refl, ap, ◌∙◌, subst, inl, inr, arith, one-add}
 use Rattle.std.specs.Str.Parse.{AllDigits}
 use Rattle.std.proofs.lemmas.Fmt.{decimal_is_IsNumeral}
 use Rattle.std.proofs.lemmas.Bool.{cases_Bool, ne_eqb, not_from_false, not-false, eqb-true}
 use Rattle.policy.specs.declared.rules.Range.{Range}
 use Rattle.policy.specs.Letters.{Lacks}
-use Rattle.sheet.specs.Tokens.{run}
+use Rattle.std.specs.List.{prefix_len}
 use Rattle.sheet.specs.Sheets.{not_feed}
 use Rattle.sheet.specs.Meaning.{Port, Address, Protocol, every, single, between, block, tcp, udp, icmp}
 use Rattle.sheet.proofs.Taking.{digit_is}
@@ -58,25 +58,25 @@ unfed_protocol text x (tcp e s) = subst Unfed (sym e) (refl, (refl, (refl, tt)))
 unfed_protocol text x (udp e s) = subst Unfed (sym e) (refl, (refl, (refl, tt)))
 unfed_protocol text x (icmp e s) = subst Unfed (sym e) (refl, (refl, (refl, (refl, tt))))
 
-pub run_free : (xs ys : List ℕ) → Unfed xs → run not_feed (xs ++ ys) ≡ length xs + run not_feed ys
+pub run_free : (xs ys : List ℕ) → Unfed xs → prefix_len not_feed (xs ++ ys) ≡ length xs + prefix_len not_feed ys
 run_free [] ys h = omega arith
 run_free (x ∷ xs) ys h = rw h.0 (omega (arith, run_free xs ys h.1))
 
-pub run_before : (xs ys : List ℕ) → run not_feed (xs ++ (10 ∷ ys)) ≤ length xs
+pub run_before : (xs ys : List ℕ) → prefix_len not_feed (xs ++ (10 ∷ ys)) ≤ length xs
 run_before [] ys = omega arith
 run_before (x ∷ xs) ys =
-    elim (not_feed x) as (λ v. cond v (suc (run not_feed (xs ++ (10 ∷ ys)))) 0 ≤ suc (length xs)) [ true ↦ omega (arith, run_before xs ys) | false ↦ omega arith ]
+    elim (not_feed x) as (λ v. cond v (1 + prefix_len not_feed (xs ++ (10 ∷ ys))) 0 ≤ suc (length xs)) [ true ↦ omega (arith, run_before xs ys) | false ↦ omega arith ]
 
 -- The bytes before the line feed, the line feed, and the others.
-pub split_feed : (bs : List ℕ) → run not_feed bs < length bs → bs ≡ take (run not_feed bs) bs ++ (10 ∷ drop (suc (run not_feed bs)) bs)
+pub split_feed : (bs : List ℕ) → prefix_len not_feed bs < length bs → bs ≡ take (prefix_len not_feed bs) bs ++ (10 ∷ drop (suc (prefix_len not_feed bs)) bs)
 split_feed [] h = absurd (omega arith)
 split_feed (b ∷ bs) h =
     elim (cases_Bool (not_feed b)) [
       | inl e ↦
-          let n : run not_feed (b ∷ bs) ≡ suc (run not_feed bs) = rw e in
+          let n : prefix_len not_feed (b ∷ bs) ≡ suc (prefix_len not_feed bs) = rw (e, one-add) in
           let r = split_feed bs (omega (arith, n)) in
           ap (λ (t : List ℕ). b ∷ t) r ∙ ap (λ (k : ℕ). take k (b ∷ bs) ++ (10 ∷ drop (suc k) (b ∷ bs))) (sym n)
       | inr e ↦
-          let n : run not_feed (b ∷ bs) ≡ 0 = rw e in
+          let n : prefix_len not_feed (b ∷ bs) ≡ 0 = rw e in
           ap (λ (x : ℕ). x ∷ bs) (eqb-true b 10 (not-false (eqb b 10) e)) ∙ ap (λ (k : ℕ). take k (b ∷ bs) ++ (10 ∷ drop (suc k) (b ∷ bs))) (sym n)
     ]

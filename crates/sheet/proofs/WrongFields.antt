@@ -3,16 +3,18 @@ use Rattle.std.proofs.Common.{◌≡◌, ℕ, zero, suc, ◌+◌, ◌≤◌, Boo
 use Rattle.std.proofs.lemmas.Bool.{cases_Bool}
 use Rattle.policy.specs.declared.rules.Range.{Range}
 use Rattle.faults.specs.declared.Spot.{Spot}
+use Rattle.sheet.specs.declared.tokens.Mark.TheVariants.{Comma}
 use Rattle.faults.specs.declared.FieldFault.{FieldFault}
 use Rattle.faults.specs.declared.FieldFault.TheVariants.{IllMade, Misfit, OutOfRange}
 use Rattle.sheet.specs.Tokens.{Tok, token, size}
-use Rattle.sheet.specs.Forms.{Want, fits, figures, after, ended, Read, got, fault, noted, went, turn, walk, address_form, port_form, protocol_form}
+use Rattle.sheet.specs.Forms.{Want, position, fits, figures, after, ended, Read, got, fault, noted, went, turn, walk, address_form, port_form, protocol_form}
 use Rattle.sheet.specs.Lines.{spot, and_then, ranges_at}
 use Rattle.sheet.specs.Readings.{address_of, port_of, protocol_of, address_at, port_at, protocol_at, meant, ranged}
 use Rattle.sheet.specs.Meaning.{Address, Port}
 use Rattle.sheet.specs.Refusing.{here, next, IllMadeAt, MisfitAt, FieldStops, RightField, FieldWrong, in_source, in_destination, in_source_port, in_destination_port, in_protocol}
-use Rattle.sheet.proofs.Addresses.{address_only}
-use Rattle.sheet.proofs.PortsOnly.{Only, port_only}
+use Rattle.sheet.proofs.AddressesRead.{address_only}
+use Rattle.sheet.proofs.Ports.{port_only}
+use Rattle.sheet.proofs.Sound.{Only}
 
 -- No way is longer than k.
 abbrev Deep : ℕ → List (List Want) → Type 0
@@ -30,7 +32,7 @@ shallow [] ways h e = let z : ◌≡◌ {A = ℕ} 0 1 = cc in omega arith
 shallow (x ∷ w) ways h e = let n = h.0 in omega arith
 
 never : {A : Type 0} (ns : List ℕ) (to : ℕ) (e : FieldFault) → got ns to ≡ fault e → A
-never ns to e h = let z : ◌≡◌ {A = ℕ} 0 1 = cc in absurd (omega arith)
+never ns to e h = absurd (cc)
 
 fault_same : {A : Type 0} (f e : FieldFault) → ◌≡◌ {A = Read A} (fault f) (fault e) → f ≡ e
 fault_same f e h = cc
@@ -41,20 +43,20 @@ noted_fault ns (fault f) e h = h
 
 -- A fault of the tokens of a field.
 abbrev TokenStops : List (List Want) → List ℕ → Spot → ℕ → FieldFault → Type 0
-TokenStops ways s p at (IllMade f) = (f.spot ≡ p) × IllMadeAt s ways at f.at
-TokenStops ways s p at (Misfit to q) = (q ≡ p) × MisfitAt s ways at to
-TokenStops ways s p at (OutOfRange b q) = ⊥
+TokenStops ways s p at (IllMade f) = (f.position.spot ≡ p) × IllMadeAt s ways at f.position.at
+TokenStops ways s p at (Misfit to) = (to.spot ≡ p) × MisfitAt s ways at to.at
+TokenStops ways s p at (OutOfRange from) = ⊥
 
 module _ (s : List ℕ) (p : Spot) (ways : List (List Want)) (at : ℕ) (t : Tok) (made : token (drop at s) ≡ Some t) where
   further : (w : List Want) (others : List (List Want)) (e : FieldFault) → after t ways ≡ w ∷ others → ended (w ∷ others) ≡ false → TokenStops (w ∷ others) s p (at + size t) e → TokenStops ways s p at e
   further w others (IllMade f) a n h = (h.0, record { left = h.1.left; reached = next t w others made a n h.1.reached; ill = h.1.ill })
-  further w others (Misfit to q) a n h = (h.0, record { left = h.1.left; t = h.1.t; reached = next t w others made a n h.1.reached; made = h.1.made; none = h.1.none })
-  further w others (OutOfRange b q) a n h = absurd h
+  further w others (Misfit to) a n h = (h.0, record { left = h.1.left; t = h.1.t; reached = next t w others made a n h.1.reached; made = h.1.made; none = h.1.none })
+  further w others (OutOfRange from) a n h = absurd h
 
   went_stops : (k : ℕ) (f : List (List Want) → ℕ → Read (List ℕ)) → ((w : List Want) (others : List (List Want)) (e : FieldFault) → Deep k (w ∷ others) → ended (w ∷ others) ≡ false → f (w ∷ others) (at + size t) ≡ fault e → TokenStops (w ∷ others) s p (at + size t) e) →
       (left : List (List Want)) → after t ways ≡ left → Deep k left → (e : FieldFault) → went p f t at left ≡ fault e → TokenStops ways s p at e
   went_stops k f rec [] a deep e h =
-      subst (TokenStops ways s p at) (fault_same (Misfit at p) e h) (refl, record { left = ways; t = t; reached = here; made = made; none = a })
+      subst (TokenStops ways s p at) (fault_same (Misfit (position at p)) e h) (refl, record { left = ways; t = t; reached = here; made = made; none = a })
   went_stops k f rec (w ∷ others) a deep e h =
       elim (cases_Bool (ended (w ∷ others))) [
         | inl y ↦ never (figures t) (at + size t) e (ap (λ (b : Bool). cond b (got (figures t) (at + size t)) (noted (figures t) (f (w ∷ others) (at + size t)))) (sym y) ∙ h)
@@ -67,7 +69,7 @@ turn_stops : (s : List ℕ) (p : Spot) (ways : List (List Want)) (at k : ℕ) (f
     ((w : List Want) (others : List (List Want)) (m : ℕ) (e : FieldFault) → Deep k (w ∷ others) → ended (w ∷ others) ≡ false → f (w ∷ others) m ≡ fault e → TokenStops (w ∷ others) s p m e) →
     Deep (suc k) ways → (o : Option Tok) → token (drop at s) ≡ o → (e : FieldFault) → turn p f ways at o ≡ fault e → TokenStops ways s p at e
 turn_stops s p ways at k f rec deep None made e h =
-    subst (TokenStops ways s p at) (fault_same (IllMade (record { at = at; spot = p })) e h) (refl, record { left = ways; reached = here; ill = made })
+    subst (TokenStops ways s p at) (fault_same (IllMade (record { position = position at p })) e h) (refl, record { left = ways; reached = here; ill = made })
 turn_stops s p ways at k f rec deep (Some t) made e h =
     went_stops s p ways at t made k f (λ w others g d n q. rec w others (at + size t) g d n q) (after t ways) refl (after_deep k t ways deep) e h
 
@@ -80,13 +82,13 @@ walk_stops (suc k) ways s p at e deep h =
 -- What is wrong with a field.
 as_field : (ways : List (List Want)) (range : List ℕ → Option Range) (s : List ℕ) (p : Spot) (at : ℕ) (e : FieldFault) → TokenStops ways s p at e → FieldStops ways range s p at e
 as_field ways range s p at (IllMade f) h = h
-as_field ways range s p at (Misfit to q) h = h
-as_field ways range s p at (OutOfRange b q) h = absurd h
+as_field ways range s p at (Misfit to) h = h
+as_field ways range s p at (OutOfRange from) h = absurd h
 
 ranged_stops : (ways : List (List Want)) (range : List ℕ → Option Range) (s : List ℕ) (p : Spot) (at k to : ℕ) (ns : List ℕ) (o : Option Range) (e : FieldFault) → walk k ways s p at ≡ got ns to → range ns ≡ o → ranged p at to o ≡ fault e → FieldStops ways range s p at e
-ranged_stops ways range s p at k to ns (Some x) e w r h = let z : ◌≡◌ {A = ℕ} 0 1 = cc in absurd (omega arith)
+ranged_stops ways range s p at k to ns (Some x) e w r h = absurd (cc)
 ranged_stops ways range s p at k to ns None e w r h =
-    subst (FieldStops ways range s p at) (fault_same (OutOfRange at p) e h) (refl, refl, record { most = k; p = p; ns = ns; to = to; tokens = w; none = r })
+    subst (FieldStops ways range s p at) (fault_same (OutOfRange (position at p)) e h) (refl, record { most = k; p = p; ns = ns; to = to; tokens = w; none = r })
 
 field_stops : (k : ℕ) (ways : List (List Want)) (range : List ℕ → Option Range) (s : List ℕ) (p : Spot) (at : ℕ) (e : FieldFault) → Deep (suc k) ways → (x : Read (List ℕ)) → walk (suc k) ways s p at ≡ x → meant range p at x ≡ fault e → FieldStops ways range s p at e
 field_stops k ways range s p at e deep (got ns to) w h = ranged_stops ways range s p at (suc k) to ns (range ns) e w refl h
@@ -102,14 +104,14 @@ protocol_stops : (s : List ℕ) (p : Spot) (at : ℕ) (e : FieldFault) → proto
 protocol_stops s p at e h =
     field_stops 1 protocol_form protocol_of s p at e (omega arith, (omega arith, (omega arith, (omega arith, (omega arith, tt))))) (walk 2 protocol_form s p at) refl h
 
-right : (reads : List ℕ → Spot → ℕ → Read Range) (means : List ℕ → Range → Type 0) → Only reads means → (s : List ℕ) (p : Spot) (at to : ℕ) (x : Range) → reads s p at ≡ got x to → RightField means s at to
-right reads means only s p at to x h = let q = only s p at to x h in record { text = q.0; range = x; right = q.1.0; bytes = q.1.1 }
+right : (reads : List ℕ → Spot → ℕ → Read Range) (means : List ℕ → Range → Type 0) → Only Comma reads means → (s : List ℕ) (p : Spot) (at to : ℕ) (x : Range) → reads s p at ≡ got x to → RightField means s at to
+right reads means only s p at to x h = let q = only s p at to x h in record { text = q.text; range = x; right = q.right; bytes = q.bytes }
 
 -- One field after another.
 module _ (s : List ℕ) (l from : ℕ) (e : FieldFault) where
   from_5 : (m n o q : ℕ) → RightField Address s from m → RightField Address s m n → RightField Port s n o → RightField Port s o q → (a b c d : Range) (x : Read Range) → protocol_at s (spot l 5) q ≡ x →
       and_then x (λ i j. got (a ∷ b ∷ c ∷ d ∷ i ∷ []) j) ≡ fault e → FieldWrong s l from e
-  from_5 m n o q r1 r2 r3 r4 a b c d (got i j) h w = let z : ◌≡◌ {A = ℕ} 0 1 = cc in absurd (omega arith)
+  from_5 m n o q r1 r2 r3 r4 a b c d (got i j) h w = absurd (cc)
   from_5 m n o q r1 r2 r3 r4 a b c d (fault g) h w = in_protocol m n o q r1 r2 r3 r4 (protocol_stops s (spot l 5) q e (h ∙ ap fault (fault_same g e w)))
 
   from_4 : (m n o : ℕ) → RightField Address s from m → RightField Address s m n → RightField Port s n o → (a b c : Range) (x : Read Range) → port_at s (spot l 4) o ≡ x →

@@ -1,11 +1,12 @@
 -- The form of each field, and the first token that fails it.
-use Rattle.std.specs.Prelude.{ℕ, zero, suc, ◌+◌, Bool, true, false, cond, ◌&&◌, List, [], ◌∷◌, ◌++◌, drop, Some, None, codes, Option, ◌==◌}
+use Rattle.std.specs.Prelude.{ℕ, zero, suc, ◌+◌, Bool, true, false, cond, ◌&&◌, List, [], ◌∷◌, ◌++◌, length, drop, Some, None, codes, Option, ◌==◌}
 use Rattle.std.specs.Str.Parse.{digits_value}
 use Rattle.sheet.specs.declared.tokens.Mark.{Mark}
 use Rattle.sheet.specs.declared.tokens.Mark.TheVariants.{Dot, Slash, Dash, Star, Comma, LineFeed}
 use Rattle.faults.specs.declared.FieldFault.{FieldFault}
 use Rattle.faults.specs.declared.FieldFault.TheVariants.{IllMade, Misfit}
 use Rattle.faults.specs.declared.Spot.{Spot}
+use Rattle.faults.specs.declared.Position.{Position}
 use Rattle.sheet.specs.Tokens.{Tok, number, word, mark, token, size}
 
 -- What a place of a form asks of a token.
@@ -84,6 +85,10 @@ figures (number ds) = digits_value 10 ds ∷ []
 figures (word ls) = named ls ∷ []
 figures (mark m) = []
 
+-- A byte and its spot.
+abbrev pub position : ℕ → Spot → Position
+position at p = record { at = at; spot = p }
+
 -- What was read and the byte after it, or the fault.
 pub data Read (A : Type 0) : Type 0 where
   got : A → ℕ → Read A
@@ -96,22 +101,22 @@ noted ns (fault f) = fault f
 -- A well-made token is asked whether some way to write the field goes on with it; `ways` is what is left of these.
 -- The spot `p` is the line and the field.
 abbrev pub went : Spot → (List (List Want) → ℕ → Read (List ℕ)) → Tok → ℕ → List (List Want) → Read (List ℕ)
-went p next t at [] = fault (Misfit at p)
+went p next t at [] = fault (Misfit (position at p))
 went p next t at (w ∷ ws) = cond (ended (w ∷ ws)) (got (figures t) (at + size t)) (noted (figures t) (next (w ∷ ws) (at + size t)))
 
 abbrev pub turn : Spot → (List (List Want) → ℕ → Read (List ℕ)) → List (List Want) → ℕ → Option Tok → Read (List ℕ)
-turn p next ways at None = fault (IllMade (record { at = at; spot = p }))
+turn p next ways at None = fault (IllMade (record { position = position at p }))
 turn p next ways at (Some t) = went p next t at (after t ways)
 
 -- The numbers of a field that begins at byte `at`: each token is asked whether it is well made, and then whether some way
 -- to write the field goes on with it. `k` is at least the length of the longest way.
 abbrev pub walk : ℕ → List (List Want) → List ℕ → Spot → ℕ → Read (List ℕ)
-walk zero ways s p at = fault (Misfit at p)
+walk zero ways s p at = fault (Misfit (position at p))
 walk (suc k) ways s p at = turn p (λ ws to. walk k ws s p to) ways at (token (drop at s))
 
--- One token that is wanted at a place.
-abbrev pub expect : Want → List ℕ → Spot → ℕ → Read (List ℕ)
-expect w s p at = walk 1 ((w ∷ []) ∷ []) s p at
+-- The numbers of tokens that can be written in one way alone.
+unfoldable pub way_at : List Want → List ℕ → Spot → ℕ → Read (List ℕ)
+way_at way s p at = walk (length way) (way ∷ []) s p at
 
 -- What is left of a form after a number.
 abbrev pub port_rest : List (List Want)

@@ -1,35 +1,18 @@
 -- What header lines say: the first five fields, each by its numbers alone.
-use Rattle.std.specs.Prelude.{ℕ, cond, ◌&&◌, List, [], ◌∷◌, Some, None, Option, nat_le}
+use Rattle.std.specs.Prelude.{ℕ, cond, List, [], ◌∷◌, Some, None, Option, nat_le}
 use Rattle.policy.specs.declared.fields.Header.{Header}
 use Rattle.sheet.specs.declared.tokens.Mark.{Mark}
-use Rattle.sheet.specs.declared.tokens.Mark.TheVariants.{Dot, Comma, LineFeed}
+use Rattle.sheet.specs.declared.tokens.Mark.TheVariants.{Comma, LineFeed}
 use Rattle.faults.specs.declared.Spot.{Spot}
 use Rattle.faults.specs.declared.SheetFault.TheVariants.{Field}
-use Rattle.sheet.specs.declared.headers.Four.{Four}
-use Rattle.sheet.specs.Forms.{Want, digits, the, Read, got, fault, walk}
+use Rattle.sheet.specs.Forms.{Want, digits, the, Read, got, fault, way_at}
 use Rattle.sheet.specs.Lines.{spot, and_then}
-use Rattle.sheet.specs.Readings.{address_low, meant}
+use Rattle.sheet.specs.Readings.{dotted_of, dotted_rest, meant}
 use Rattle.sheet.specs.Sheets.{Lined, good, bad}
 
--- Four numbers with dots, and the comma.
-abbrev pub dotted_form : List (List Want)
-dotted_form = (digits ∷ the Dot ∷ digits ∷ the Dot ∷ digits ∷ the Dot ∷ digits ∷ the Comma ∷ []) ∷ []
-
 -- A number, and the mark that closes its field.
-abbrev pub number_form : Mark → List (List Want)
-number_form close = (digits ∷ the close ∷ []) ∷ []
-
--- The address of four numbers up to 255.
-abbrev pub dotted_of : List ℕ → Option ℕ
-dotted_of [] = None
-dotted_of (a ∷ []) = None
-dotted_of (a ∷ b ∷ []) = None
-dotted_of (a ∷ b ∷ c ∷ []) = None
-dotted_of (a ∷ b ∷ c ∷ d ∷ []) = cond (nat_le a 255 && (nat_le b 255 && (nat_le c 255 && nat_le d 255))) (Some (address_low a b c d)) None
-dotted_of (a ∷ b ∷ c ∷ d ∷ e ∷ ns) = None
-
-abbrev pub four : Four → List ℕ
-four f = f.a ∷ f.b ∷ f.c ∷ f.d ∷ []
+abbrev pub number_way : Mark → List Want
+number_way close = digits ∷ the close ∷ []
 
 -- A number up to the top.
 abbrev pub up_to : ℕ → List ℕ → Option ℕ
@@ -38,10 +21,10 @@ up_to top (n ∷ []) = cond (nat_le n top) (Some n) None
 up_to top (n ∷ m ∷ ns) = None
 
 abbrev pub dotted_at : List ℕ → Spot → ℕ → Read ℕ
-dotted_at s p at = meant dotted_of p at (walk 8 dotted_form s p at)
+dotted_at s p at = meant dotted_of p at (way_at (digits ∷ dotted_rest Comma) s p at)
 
 abbrev pub number_at : ℕ → Mark → List ℕ → Spot → ℕ → Read ℕ
-number_at top close s p at = meant (up_to top) p at (walk 2 (number_form close) s p at)
+number_at top close s p at = meant (up_to top) p at (way_at (number_way close) s p at)
 
 -- The five numbers of header line l, which begins at byte `at`; the line feed closes the last field.
 abbrev pub numbers_at : List ℕ → ℕ → ℕ → Read (List ℕ)

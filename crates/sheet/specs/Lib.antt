@@ -6,3 +6,4 @@ pub mod Sheets
 pub mod Meaning
 pub mod Headers
 pub mod Refusing
+pub mod Calls

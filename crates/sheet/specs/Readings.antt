@@ -1,16 +1,11 @@
 -- What the numbers of a field mean.
-use Rattle.std.specs.Prelude.{◌≡◌, ℕ, ◌+◌, ◌-◌, ◌*◌, ◌%◌, ◌^◌, ◌≤◌, Bool, cond, ◌&&◌, List, [], ◌∷◌, length, drop, Some, None, Ok, Err, Option, Result, ◌==◌, nat_le}
-use Rattle.std.specs.Str.Parse.{AllDigits}
-use Rattle.sheet.specs.declared.tokens.Token.{Token}
-use Rattle.sheet.specs.declared.tokens.Token.TheVariants.{Number, Word, Mark}
-use Rattle.faults.specs.declared.TokenFault.{TokenFault}
-use Rattle.sheet.specs.Tokens.{Tok, number, word, mark, token, size}
+use Rattle.std.specs.Prelude.{ℕ, ◌+◌, ◌-◌, ◌*◌, ◌%◌, ◌^◌, Bool, cond, ◌&&◌, List, [], ◌∷◌, Some, None, Option, ◌==◌, nat_le}
 use Rattle.policy.specs.declared.rules.Range.{Range}
-use Rattle.faults.specs.declared.FieldFault.{FieldFault}
 use Rattle.faults.specs.declared.FieldFault.TheVariants.{OutOfRange}
 use Rattle.faults.specs.declared.Spot.{Spot}
-use Rattle.sheet.specs.declared.reader.Quad.{Quad}
-use Rattle.sheet.specs.Forms.{Read, got, fault, walk, port_form, address_form, protocol_form}
+use Rattle.sheet.specs.declared.tokens.Mark.{Mark}
+use Rattle.sheet.specs.declared.tokens.Mark.TheVariants.{Dot}
+use Rattle.sheet.specs.Forms.{Want, digits, the, position, Read, got, fault, walk, port_form, address_form, protocol_form}
 
 abbrev pub span : ℕ → ℕ → Range
 span lo hi = record { low = lo; high = hi }
@@ -28,6 +23,19 @@ whole_address = span 0 4294967295
 -- The numbers a.b.c.d and the length n: a block, whose bits after the length are zero.
 abbrev pub address_low : ℕ → ℕ → ℕ → ℕ → ℕ
 address_low a b c d = ((a * 256 + b) * 256 + c) * 256 + d
+
+-- What follows the first of four numbers with dots, up to the mark after them.
+abbrev pub dotted_rest : Mark → List Want
+dotted_rest close = the Dot ∷ digits ∷ the Dot ∷ digits ∷ the Dot ∷ digits ∷ the close ∷ []
+
+-- The address of four numbers up to 255.
+abbrev pub dotted_of : List ℕ → Option ℕ
+dotted_of [] = None
+dotted_of (a ∷ []) = None
+dotted_of (a ∷ b ∷ []) = None
+dotted_of (a ∷ b ∷ c ∷ []) = None
+dotted_of (a ∷ b ∷ c ∷ d ∷ []) = cond (nat_le a 255 && (nat_le b 255 && (nat_le c 255 && nat_le d 255))) (Some (address_low a b c d)) None
+dotted_of (a ∷ b ∷ c ∷ d ∷ e ∷ ns) = None
 
 abbrev pub is_block : ℕ → ℕ → ℕ → ℕ → ℕ → Bool
 is_block a b c d n = nat_le a 255 && (nat_le b 255 && (nat_le c 255 && (nat_le d 255 && (nat_le n 32 && address_low a b c d % 2 ^ (32 - n) == 0))))
@@ -49,7 +57,7 @@ protocol_of (a ∷ b ∷ ns) = None
 
 abbrev pub ranged : {A : Type 0} → Spot → ℕ → ℕ → Option A → Read A
 ranged p from to (Some s) = got s to
-ranged p from to None = fault (OutOfRange from p)
+ranged p from to None = fault (OutOfRange (position from p))
 
 abbrev pub meant : {A : Type 0} → (List ℕ → Option A) → Spot → ℕ → Read (List ℕ) → Read A
 meant of p from (got ns to) = ranged p from to (of ns)
@@ -63,41 +71,3 @@ address_at s p at = meant address_of p at (walk 10 address_form s p at)
 
 abbrev pub protocol_at : List ℕ → Spot → ℕ → Read Range
 protocol_at s p at = meant protocol_of p at (walk 2 protocol_form s p at)
-
--- A call answered what the sheet says at its place, and stands at the byte after it.
-abbrev pub Tells : {A B : Type 0} → (A → B) → Read B → Result A FieldFault → ℕ → Type 0
-Tells f says (Ok x) end = says ≡ got (f x) end
-Tells f says (Err e) end = says ≡ fault e
-
-abbrev pub one : ℕ → List ℕ
-one n = n ∷ []
-
-abbrev pub none : Unit {0} → List ℕ
-none u = []
-
--- A token of the sheet by its bytes.
-abbrev pub seen : Token → Tok
-seen (Number ds) = number ds.now
-seen (Word ls) = word ls.now
-seen (Mark m) = mark m
-
--- What is known of the bytes of a number.
-abbrev pub Made : Tok → Type 0
-Made (number ds) = (length ds ≤ 5) × AllDigits 10 ds
-Made (word ls) = Unit {0}
-Made (mark m) = Unit {0}
-
--- A token was taken at a byte, and the reader stands at `end`.
-abbrev pub Taken : List ℕ → Spot → ℕ → ℕ → Result Token TokenFault → Type 0
-Taken s p at end (Ok t) = (token (drop at s) ≡ Some (seen t)) × (end ≡ at + size (seen t)) × Made (seen t)
-Taken s p at end (Err f) = (token (drop at s) ≡ None) × (f ≡ record { at = at; spot = p })
-
-abbrev pub listed : Option ℕ → List ℕ
-listed None = []
-listed (Some n) = n ∷ []
-
-abbrev pub itself : {A : Type 0} → A → A
-itself x = x
-
-abbrev pub quad : Quad → List ℕ
-quad q = q.b ∷ q.c ∷ q.d ∷ q.n ∷ []

@@ -8,7 +8,7 @@ use Rattle.faults.specs.declared.FieldFault.{FieldFault}
 use Rattle.faults.specs.declared.FieldFault.TheVariants.{IllMade, Misfit, OutOfRange}
 use Rattle.faults.specs.declared.SheetFault.{SheetFault}
 use Rattle.faults.specs.declared.SheetFault.TheVariants.{TooLong, NoPlace, NoLineFeed, Field, NoWord}
-use Rattle.sheet.specs.Forms.{Want, got, after, ended, walk, address_form, port_form, protocol_form}
+use Rattle.sheet.specs.Forms.{Want, position, got, after, ended, walk, address_form, port_form, protocol_form}
 use Rattle.sheet.specs.Lines.{spot}
 use Rattle.sheet.specs.Meaning.{Line, Means, Address, Port}
 use Rattle.sheet.specs.Readings.{address_of, port_of, protocol_of}
@@ -46,9 +46,9 @@ pub record OutOfRangeAt (s : List ℕ) (ways : List (List Want)) (range : List �
 
 -- What is wrong with a field that begins at byte `at`, whose ways to be written and whose range are given.
 abbrev pub FieldStops : List (List Want) → (List ℕ → Option Range) → List ℕ → Spot → ℕ → FieldFault → Type 0
-FieldStops ways range s p at (IllMade f) = (f.spot ≡ p) × IllMadeAt s ways at f.at
-FieldStops ways range s p at (Misfit to q) = (q ≡ p) × MisfitAt s ways at to
-FieldStops ways range s p at (OutOfRange b q) = (q ≡ p) × (b ≡ at) × OutOfRangeAt s ways range at
+FieldStops ways range s p at (IllMade f) = (f.position.spot ≡ p) × IllMadeAt s ways at f.position.at
+FieldStops ways range s p at (Misfit to) = (to.spot ≡ p) × MisfitAt s ways at to.at
+FieldStops ways range s p at (OutOfRange from) = (from ≡ position at p) × OutOfRangeAt s ways range at
 
 -- A right field stands from byte `at` up to the comma before byte `to`.
 pub record RightField (means : List ℕ → Range → Type 0) (s : List ℕ) (at to : ℕ) : Type 0 where
@@ -84,7 +84,7 @@ Wrong code s places count from TooLong = ⊥
 Wrong code s places count from (NoPlace at line) = (at ≡ from) × (line ≡ count + 1) × (places ≤ count)
 Wrong code s places count from (NoLineFeed at line) = (at ≡ length s) × (line ≡ count + 1) × (count < places) × Lacks 10 (drop from s)
 Wrong code s places count from (Field f) = (count < places) × FieldWrong s (count + 1) from f
-Wrong code s places count from (NoWord at p) = (count < places) × (p ≡ spot (count + 1) 6) × Wordless code s from at
+Wrong code s places count from (NoWord at) = (count < places) × (at.spot ≡ spot (count + 1) 6) × Wordless code s from at.at
 
 -- The lines before byte `from` mean the rules, and the line that begins there is wrong.
 pub record StopsAt (code : List ℕ → Option ℕ) (s : List ℕ) (places : ℕ) (rules : List Rule) (refused : SheetFault) : Type 0 where
@@ -107,7 +107,7 @@ RefusesRightly code s was is TooLong = (8192 < length s) × (is ≡ was)
 RefusesRightly code s was is (NoPlace at line) = Stopped code s was is (NoPlace at line)
 RefusesRightly code s was is (NoLineFeed at line) = Stopped code s was is (NoLineFeed at line)
 RefusesRightly code s was is (Field f) = Stopped code s was is (Field f)
-RefusesRightly code s was is (NoWord at p) = Stopped code s was is (NoWord at p)
+RefusesRightly code s was is (NoWord at) = Stopped code s was is (NoWord at)
 
 -- What is known of a refusal.
 abbrev pub RefusalsRight : (List ℕ → Option ℕ) → List ℕ → List Rule → List Rule → Result ℕ SheetFault → Type 0

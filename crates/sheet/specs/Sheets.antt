@@ -1,12 +1,12 @@
 -- What a whole sheet says.
-use Rattle.std.specs.Prelude.{◌≡◌, ℕ, zero, suc, ◌+◌, min, Bool, cond, not, List, [], ◌∷◌, ◌++◌, length, take, drop, Some, None, Ok, Err, Option, Result, ◌==◌, nat_le}
+use Rattle.std.specs.Prelude.{◌≡◌, ℕ, zero, suc, ◌+◌, ◌<◌, ◌≤◌, min, Bool, cond, not, List, [], ◌∷◌, ◌++◌, length, drop, Some, None, Ok, Err, Option, Result, ◌==◌, nat_le}
 use Rattle.policy.specs.declared.rules.Range.{Range}
 use Rattle.faults.specs.declared.Spot.{Spot}
 use Rattle.policy.specs.declared.rules.Rule.{Rule}
 use Rattle.faults.specs.declared.SheetFault.{SheetFault}
 use Rattle.faults.specs.declared.SheetFault.TheVariants.{TooLong, NoPlace, NoLineFeed, Field, NoWord}
-use Rattle.sheet.specs.Tokens.{run}
-use Rattle.sheet.specs.Forms.{Read, got, fault}
+use Rattle.std.specs.List.{prefix_len, take_while}
+use Rattle.sheet.specs.Forms.{position, Read, got, fault}
 use Rattle.sheet.specs.Lines.{spot, ranges_at}
 
 abbrev pub not_feed : ℕ → Bool
@@ -14,20 +14,31 @@ not_feed b = not (b == 10)
 
 -- The bytes of a line from `at` on, without its line feed.
 abbrev pub up_to_feed : List ℕ → ℕ → List ℕ
-up_to_feed s at = take (run not_feed (drop at s)) (drop at s)
+up_to_feed s at = take_while not_feed (drop at s)
 
--- A rule and the byte after its line, or the fault.
+-- Whether the line from `at` on has its line feed.
+abbrev pub HasFeed : List ℕ → ℕ → Type 0
+HasFeed s at = at + prefix_len not_feed (drop at s) < length s
+
+abbrev pub LacksFeed : List ℕ → ℕ → Type 0
+LacksFeed s at = length s ≤ at + prefix_len not_feed (drop at s)
+
+-- The byte after the line feed, or the sheet's end.
+abbrev pub after_feed : List ℕ → ℕ → ℕ
+after_feed s at = min (at + prefix_len not_feed (drop at s) + 1) (length s)
+
+-- What is read of a line and the byte after it, or the fault.
 pub data Lined (A : Type 0) : Type 0 where
   good : A → ℕ → Lined A
   bad : SheetFault → Lined A
 
 abbrev pub decided : List Range → Spot → ℕ → ℕ → Option ℕ → Lined Rule
-decided r p at end None = bad (NoWord at p)
+decided r p at end None = bad (NoWord (position at p))
 decided r p at end (Some c) = good (record { ranges = r; code = c }) end
 
 abbrev pub with_decision : (List ℕ → Option ℕ) → List ℕ → ℕ → Read (List Range) → Lined Rule
 with_decision code s l (fault e) = bad (Field e)
-with_decision code s l (got r at) = decided r (spot l 6) at (min (at + run not_feed (drop at s) + 1) (length s)) (code (up_to_feed s at))
+with_decision code s l (got r at) = decided r (spot l 6) at (after_feed s at) (code (up_to_feed s at))
 
 -- Line l, which begins at byte `at`; `code` is the code of a word of the kind.
 abbrev pub line_at : (List ℕ → Option ℕ) → List ℕ → ℕ → ℕ → Lined Rule
@@ -54,7 +65,7 @@ abbrev pub lines_at : {A : Type 0} → (List ℕ → ℕ → ℕ → Lined A) �
 lines_at line s zero l at = cond (nat_le (length s) at) (record { entries = []; stop = None }) (stopped (NoPlace at l))
 lines_at line s (suc n) l at =
     cond (nat_le (length s) at) (record { entries = []; stop = None })
-    (cond (nat_le (length s) (at + run not_feed (drop at s))) (stopped (NoLineFeed (length s) l))
+    (cond (nat_le (length s) (at + prefix_len not_feed (drop at s))) (stopped (NoLineFeed (length s) l))
     (next_line (λ to. lines_at line s n (l + 1) to) (line s l at)))
 
 -- The answer to a sheet where there are `n` places.
@@ -68,11 +79,6 @@ number_of f (Some d) = Some (f d)
 
 abbrev pub coded : {D : Type 0} → (List ℕ → Option D) → (D → ℕ) → List ℕ → Option ℕ
 coded named numbered w = number_of numbered (named w)
-
--- A call read a line, and stands at the byte after it.
-abbrev pub Says : {A : Type 0} → Lined A → Result A SheetFault → ℕ → Type 0
-Says says (Ok x) end = says ≡ good x end
-Says says (Err e) end = says ≡ bad e
 
 -- The count of entries, or the fault.
 abbrev pub Stops : {A : Type 0} → Answer A → Result ℕ SheetFault → Type 0

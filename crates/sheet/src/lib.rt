@@ -26,7 +26,9 @@
 // 7. Is the last field a word of the kind? At its first byte.
 #![tactic(auto)]
 
+mod addresses;
 pub mod headers;
+mod lines;
 mod reader;
 pub mod sheets;
 mod tokens;

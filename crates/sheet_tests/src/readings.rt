@@ -25,20 +25,12 @@ pub fn told(
     line: usize,
     field: u8,
 ) -> Result<(), Fail> {
-    match reading {
-        Ok(count) => {
-            assert_eq!(rt; count, 9999);
-            Ok(())
-        },
-        Err(fault) => {
-            let told = fault.told();
-            assert_eq!(rt; told.number, number);
-            assert_eq!(rt; told.byte, byte);
-            assert_eq!(rt; told.line, line);
-            assert_eq!(rt; told.field, field);
-            Ok(())
-        }
-    }
+    let told = reading.map_err(|fault| {
+        let told = fault.told();
+        (told.number, told.byte, told.line, told.field)
+    });
+    assert_eq!(rt; told, Err((number, byte, line, field)));
+    Ok(())
 }
 
 // The reading answers this count.
@@ -47,16 +39,8 @@ pub fn counted(
     reading: Result<usize, SheetFault>,
     count: usize,
 ) -> Result<(), Fail> {
-    match reading {
-        Ok(found) => {
-            assert_eq!(rt; found, count);
-            Ok(())
-        },
-        Err(fault) => {
-            assert_eq!(rt; fault.told().number, 0);
-            Ok(())
-        },
-    }
+    assert_eq!(rt; reading, Ok(count));
+    Ok(())
 }
 
 // The sheet is read: it has this many rules.

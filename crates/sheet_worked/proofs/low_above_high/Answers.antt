@@ -1,6 +1,7 @@
 use Rattle.std.proofs.Common.{refl}
 use Rattle.faults.specs.declared.FieldFault.TheVariants.{OutOfRange}
 use Rattle.faults.specs.declared.SheetFault.TheVariants.{Field}
+use Rattle.sheet.specs.Forms.{position}
 use Rattle.sheet.specs.Lines.{spot}
 use Rattle.sheet.specs.Tokens.{token}
 use Rattle.sheet_worked.proofs.Examples.{refused_with}
@@ -8,4 +9,4 @@ use Rattle.sheet_worked.proofs.low_above_high.Goals as goal
 
 pub returns : goal.returns
 unfolding token
-returns c = refused_with (Field (OutOfRange 4 (spot 1 3))) c.read_rules.ensures.answers refl
+returns c = refused_with (Field (OutOfRange (position 4 (spot 1 3)))) c.read_rules.ensures.answers refl
