@@ -5,7 +5,6 @@ use Rattle.store.specs.Meaning.{Contents, Lawful}
 use Rattle.card.specs.declared.states.SideState.{SideState}
 use Rattle.card.specs.declared.states.SideState.TheVariants.{SetAside}
 use Rattle.card.specs.declared.cards.Side.{Side}
-use Rattle.card.specs.declared.cards.Seat.TheVariants.{Vacant}
 use Rattle.card.specs.declared.cards.Card.{Card}
 use Rattle.card.specs.declared.events.Event.{Event}
 use Rattle.card.specs.declared.events.Event.TheVariants.{SideRead, SeatRead, Cleared, Began, Refused}
@@ -27,30 +26,30 @@ none_current [] = refl
 none_current (e ∷ h) = none_current h
 
 nothing : {s : ℕ} → ◌≡◌ {A = Option ℕ} None (Some s) → ⊥
-nothing e = let z : ◌≡◌ {A = ℕ} 0 1 = cc in omega arith
+nothing e = cc
 
 holds_none : (h : History) (s : ℕ) → Holding SetAside (held_at h s) (length (chain_at h s)) → ⊥
 holds_none h s p = let e : length (chain_at h s) ≡ 0 = ap length (no_chain h s) in omega (arith, p.0, p.1)
 
-module _ {S : Type 0} (contents : S → Contents) (sound : S → Type 0) (start : Contents) where
-  none_aside : (h : History) (c : Card S) → Follows contents sound start h c → (s : ℕ) → state_at h s ≡ SetAside → ⊥
+module _ {S F : Type 0} (contents : S → Contents) (frame : S → F) (start : Contents) where
+  none_aside : (h : History) (c : Card S) → Follows contents start h c → (s : ℕ) → state_at h s ≡ SetAside → ⊥
   none_aside h c f s e = let P : SideState → Type 0 = λ x. Holding x (held_at h s) (length (chain_at h s)) in holds_none h s (subst P e (f.sides.holding s))
 
   -- an answer that the card calls for is called for by its history
-  told : (h : History) (c : Card S) (e : Event) → Follows contents sound start h c → Right (shown c) e → Right (seen (no_rows start.rows) h) e
+  told : (h : History) (c : Card S) (e : Event) → Follows contents start h c → Right (shown c) e → Right (seen (no_rows start.rows) h) e
   told h c e f r = let P : View → Type 0 = λ v. Right v e in subst P f.view r
 
   -- where nothing changed
-  same : (h : History) (c d : Card S) → d ≡ c → Follows contents sound start h c → Follows contents sound start h d
-  same h c d e f = let P : Card S → Type 0 = λ x. Follows contents sound start h x in subst P (sym e) f
+  same : (h : History) (c d : Card S) → d ≡ c → Follows contents start h c → Follows contents start h d
+  same h c d e f = let P : Card S → Type 0 = λ x. Follows contents start h x in subst P (sym e) f
 
-  pub follow : (h : History) (c : Card S) (e : Event) (d : Card S) → OneCall contents sound c e d → Follows contents sound start h c → Follows contents sound start (e ∷ h) d
+  pub follow : (h : History) (c : Card S) (e : Event) (d : Card S) → OneCall contents frame c e d → Follows contents start h c → Follows contents start (e ∷ h) d
   follow h c (SideRead s x n) d o f =
       let g = same h c d o.changed f in
-      record { order = g.order; view = g.view; sides = g.sides; law = record { right = (told h c (SideRead s x n) f o.right, g.law.right); stored = g.law.stored } }
+      record { view = g.view; sides = g.sides; law = record { right = (told h c (SideRead s x n) f o.right, g.law.right); stored = g.law.stored } }
   follow h c (SeatRead k n) d o f =
       let g = same h c d o.changed f in
-      record { order = g.order; view = g.view; sides = g.sides; law = record { right = (told h c (SeatRead k n) f o.right, g.law.right); stored = g.law.stored } }
+      record { view = g.view; sides = g.sides; law = record { right = (told h c (SeatRead k n) f o.right, g.law.right); stored = g.law.stored } }
   follow h c (Cleared s) d o f =
       let usable = asked_yes (told h c (Cleared s) f o.right).asked in
       let near = asked_yes usable.1 in
@@ -63,7 +62,7 @@ module _ {S : Type 0} (contents : S → Contents) (sound : S → Type 0) (start 
       absurd (subst P (none_current h) (asked_yes vacant.1).0)
   follow h c (Refused call r) d o f =
       let g = same h c d o.changed f in
-      record { order = g.order; view = g.view; sides = g.sides; law = record { right = (told h c (Refused call r) f o.right, g.law.right); stored = g.law.stored } }
+      record { view = g.view; sides = g.sides; law = record { right = (told h c (Refused call r) f o.right, g.law.right); stored = g.law.stored } }
 
 -- a list of the same value has it at each place
 repeated : {A : Type 0} (n k : ℕ) (a : A) → get_or (replicate n a) k a ≡ a
@@ -76,16 +75,14 @@ view_is : (u v : Bool) (p q : ℕ → SideState) (m n : ℕ → ℕ) (f g : ℕ 
     → ◌≡◌ {A = View} (record { usable = u; state = p; held = m; seat = f; current = x }) (record { usable = v; state = q; held = n; seat = g; current = y })
 view_is u v p q m n f g x y a b c d e = cc
 
-module _ {S : Type 0} (contents : S → Contents) (sound : S → Type 0) (number : ℕ) (store : S) where
+module _ {S : Type 0} (contents : S → Contents) (number : ℕ) (store : S) where
   -- a new card follows the history in which nothing was called
-  pub begins : (c : Card S) → Built contents sound number store c → sound store → Lawful (contents store) → Follows contents sound (contents store) [] c
-  begins c b o l =
-      let P : S → Type 0 = λ s. sound s in
+  pub begins : (c : Card S) → Built contents number store c → Lawful (contents store) → Follows contents (contents store) [] c
+  begins c b l =
       let side : (s : ℕ) → get_or c.sides s fresh ≡ fresh = λ s. rw b.sides (repeated 3 s fresh) in
-      let seat : (k : ℕ) → begun (get_or c.seats k Vacant) ≡ None = λ k. rw b.seats (ap begun (repeated 8 k Vacant)) in
+      let seat : (k : ℕ) → begun (get_or c.seats k None) ≡ None = λ k. rw b.seats (ap begun (repeated 8 k None)) in
       record {
-        order = subst P (sym b.on) o;
-        view = view_is _ _ _ _ _ _ _ _ _ _ (b.usable o) (fun_ext (λ s. ap (λ (x : Side). x.state) (side s))) (fun_ext (λ s. ap (λ (x : Side). x.held) (side s))) (fun_ext seat) b.current;
+        view = view_is _ _ _ _ _ _ _ _ _ _ b.usable (fun_ext (λ s. ap (λ (x : Side). x.state) (side s))) (fun_ext (λ s. ap (λ (x : Side). x.held) (side s))) (fun_ext seat) b.current;
         sides = record { holding = λ s. refl; forced = λ s e. absurd (nothing e) };
         law = record {
           right = tt;

@@ -8,8 +8,7 @@ use Rattle.card.specs.declared.states.SideState.{SideState}
 use Rattle.card.specs.declared.states.Change.{Change}
 use Rattle.card.specs.declared.states.Change.TheVariants.{Clear, ClearLast}
 use Rattle.card.specs.declared.cards.Side.{Side}
-use Rattle.card.specs.declared.cards.Seat.{Seat}
-use Rattle.card.specs.declared.cards.Seat.TheVariants.{Vacant, Open}
+use Rattle.card.specs.declared.cards.Walk.{Walk}
 use Rattle.card.specs.declared.cards.Card.{Card}
 use Rattle.card.specs.declared.events.Event.{Event}
 use Rattle.card.specs.declared.events.Event.TheVariants.{SideRead, SeatRead, Cleared, Began, Refused}
@@ -22,9 +21,9 @@ abbrev pub side_of : {S : Type 0} → Card S → ℕ → Side
 side_of c s = slice_index_or c.sides s fresh
 
 -- The open look-up of a seat.
-abbrev pub begun : Seat → Option Begun
-begun Vacant = None
-begun (Open w) = Some (record { side = w.side; searches = w.searches })
+abbrev pub begun : Option Walk → Option Begun
+begun None = None
+begun (Some w) = Some (record { side = w.side; searches = w.searches })
 
 -- What a card shows.
 abbrev pub shown : {S : Type 0} → Card S → View
@@ -32,7 +31,7 @@ shown c = record {
   usable = c.usable;
   state = λ s. (side_of c s).state;
   held = λ s. (side_of c s).held;
-  seat = λ k. begun (slice_index_or c.seats k Vacant);
+  seat = λ k. begun (slice_index_or c.seats k None);
   current = c.current;
 }
 
@@ -41,12 +40,12 @@ abbrev pub clearing : ℕ → Change
 clearing n = cond (n == 1) ClearLast Clear
 
 -- A side lost the last of its rows in the store, and the store that row; nothing else changed.
-pub record OneCleared {S : Type 0} (contents : S → Contents) (sound : S → Type 0) (c : Card S) (s : ℕ) (d : Card S) : Type 0 where
+pub record OneCleared {S : Type 0} (contents : S → Contents) (c : Card S) (s : ℕ) (d : Card S) : Type 0 where
   pub state : SideState
   pub taken : Some state ≡ becomes (clearing (side_of c s).held) (side_of c s).state
   pub sides : d.sides ≡ slice_set c.sides s (record { state = state; held = (side_of c s).held - 1 })
   pub answer : Result (Unit {0}) StoreRefusal
-  pub erased : sound c.store → Erased (contents c.store) (key_at (vec_items c.rows) (s * 1024 + ((side_of c s).held - 1))) answer (contents d.store)
+  pub erased : Erased (contents c.store) (key_at (vec_items c.rows) (s * 1024 + ((side_of c s).held - 1))) answer (contents d.store)
   pub number : d.number ≡ c.number
   pub usable : d.usable ≡ c.usable
   pub seats : d.seats ≡ c.seats
@@ -57,7 +56,7 @@ pub record OneCleared {S : Type 0} (contents : S → Contents) (sound : S → Ty
 pub record OneBegun {S : Type 0} (c : Card S) (k : ℕ) (a : Header) (d : Card S) : Type 0 where
   pub side : ℕ
   pub in_force : c.current ≡ Some side
-  pub seats : d.seats ≡ slice_set c.seats k (Open (record { side = side; header = a; searches = 0 }))
+  pub seats : d.seats ≡ slice_set c.seats k (Some (record { side = side; header = a; searches = 0 }))
   pub number : d.number ≡ c.number
   pub store : d.store ≡ c.store
   pub usable : d.usable ≡ c.usable
@@ -66,15 +65,16 @@ pub record OneBegun {S : Type 0} (c : Card S) (k : ℕ) (a : Header) (d : Card S
   pub rows : d.rows ≡ c.rows
 
 -- What changed. A reading and a refused call change nothing.
-abbrev pub Changed : {S : Type 0} → (S → Contents) → (S → Type 0) → Card S → Event → Card S → Type 0
-Changed contents sound c (SideRead s x n) d = d ≡ c
-Changed contents sound c (SeatRead k n) d = d ≡ c
-Changed contents sound c (Cleared s) d = OneCleared contents sound c s d
-Changed contents sound c (Began k a i) d = OneBegun c k a d
-Changed contents sound c (Refused call r) d = d ≡ c
+abbrev pub Changed : {S : Type 0} → (S → Contents) → Card S → Event → Card S → Type 0
+Changed contents c (SideRead s x n) d = d ≡ c
+Changed contents c (SeatRead k n) d = d ≡ c
+Changed contents c (Cleared s) d = OneCleared contents c s d
+Changed contents c (Began k a i) d = OneBegun c k a d
+Changed contents c (Refused call r) d = d ≡ c
 
--- One call on a card: its answer is the one called for, what changed, and that a store in order stays so.
-pub record OneCall {S : Type 0} (contents : S → Contents) (sound : S → Type 0) (c : Card S) (e : Event) (d : Card S) : Type 0 where
+-- One call on a card: its answer is the one called for, what changed, and that what no call of the store
+-- changes stays as it was.
+pub record OneCall {S F : Type 0} (contents : S → Contents) (frame : S → F) (c : Card S) (e : Event) (d : Card S) : Type 0 where
   pub right : Right (shown c) e
-  pub changed : Changed contents sound c e d
-  pub order : sound c.store → sound d.store
+  pub changed : Changed contents c e d
+  pub framed : frame d.store ≡ frame c.store

@@ -4,7 +4,6 @@ use Rattle.store.specs.declared.row.Row.{Row}
 use Rattle.store.specs.Meaning.{Contents}
 use Rattle.card.specs.declared.states.SideState.{SideState}
 use Rattle.card.specs.declared.states.SideState.TheVariants.{Free, Loading, Ready, InForce, SetAside}
-use Rattle.card.specs.declared.cards.Seat.TheVariants.{Vacant}
 use Rattle.card.specs.declared.cards.Card.{Card}
 use Rattle.card.specs.Sides.{fresh}
 use Rattle.card.specs.Histories.{History, state_at, held_at, chain_at, current_at, seen}
@@ -20,12 +19,12 @@ Holding InForce n all = (n ≡ all) × (0 < all)
 Holding SetAside n all = (0 < n) × (n ≤ all)
 
 -- A card as it is built.
-pub record Built {S : Type 0} (contents : S → Contents) (sound : S → Type 0) (number : ℕ) (store : S) (c : Card S) : Type 0 where
+pub record Built {S : Type 0} (contents : S → Contents) (number : ℕ) (store : S) (c : Card S) : Type 0 where
   pub numbered : c.number ≡ number
   pub on : c.store ≡ store
-  pub usable : sound store → c.usable ≡ no_rows (contents store).rows
+  pub usable : c.usable ≡ no_rows (contents store).rows
   pub sides : c.sides ≡ replicate 3 fresh
-  pub seats : c.seats ≡ replicate 8 Vacant
+  pub seats : c.seats ≡ replicate 8 None
   pub current : c.current ≡ None
 
 -- What holds of the sides: how many rows each holds, and that the side in force is in that state.
@@ -34,8 +33,7 @@ pub record Sided (state : ℕ → SideState) (held : ℕ → ℕ) (chain : ℕ �
   pub forced : (s : ℕ) → current ≡ Some s → state s ≡ InForce
 
 -- A card that was built on a store with the contents `start`, after the calls and answers `h`.
-pub record Follows {S : Type 0} (contents : S → Contents) (sound : S → Type 0) (start : Contents) (h : History) (c : Card S) : Type 0 where
-  pub order : sound c.store
+pub record Follows {S : Type 0} (contents : S → Contents) (start : Contents) (h : History) (c : Card S) : Type 0 where
   -- the card shows what the calls and answers tell
   pub view : shown c ≡ seen (no_rows start.rows) h
   pub sides : Sided (state_at h) (held_at h) (chain_at h) (current_at h)

@@ -1,6 +1,7 @@
 // What a card holds.
 use crate::states::SideState;
 use policy::fields::Header;
+pub use store::row::CHAIN_ROWS;
 use store::row::Row;
 
 pub mod calls;
@@ -8,9 +9,6 @@ pub mod calls;
 pub const SIDES: usize = 3;
 
 pub const SEATS: usize = 8;
-
-// The most rows of a chain.
-pub const CHAIN_ROWS: usize = 1024;
 
 #[derive(Clone, Copy)]
 pub struct Side {
@@ -27,12 +25,6 @@ pub struct Walk {
     pub searches: u32,
 }
 
-#[derive(Clone, Copy)]
-pub enum Seat {
-    Vacant,
-    Open(Walk),
-}
-
 // A card over a match store. The rows of the three chains stand one after another, 1,024 places each.
 #[derive(Drop)]
 pub struct Card<S> {
@@ -41,7 +33,8 @@ pub struct Card<S> {
     // whether the store was empty at building
     usable: bool,
     sides: [Side; SIDES],
-    seats: [Seat; SEATS],
+    // the open look-up of each seat
+    seats: [Option<Walk>; SEATS],
     // the side in force
     current: Option<usize>,
     rows: Vec<Row>,

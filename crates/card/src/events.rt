@@ -2,6 +2,7 @@
 use crate::refusals::Refusal;
 use crate::states::SideState;
 use policy::fields::Header;
+use std::fmt;
 
 // A call on a card. Where it leaves a ticket, its last number is the place in the ticket box that the
 // ticket goes to.
@@ -11,6 +12,17 @@ pub enum Call {
     ReadSeat(usize),
     Clear(usize),
     LookUp(usize, Header, usize),
+}
+
+impl fmt::Display for Call {
+    fn fmt<W: fmt::Write>(&self, f: &mut fmt::Formatter<W>) -> fmt::Result {
+        match self {
+            Call::ReadSide(side) => write!(f, "read side {side}"),
+            Call::ReadSeat(seat) => write!(f, "read seat {seat}"),
+            Call::Clear(side) => write!(f, "clear a row of side {side}"),
+            Call::LookUp(seat, _, _) => write!(f, "look a header up in seat {seat}"),
+        }
+    }
 }
 
 #[derive(Clone, Copy, Debug)]
@@ -24,4 +36,21 @@ pub enum Event {
     // a look-up began
     Began(usize, Header, usize),
     Refused(Call, Refusal),
+}
+
+// What the call answered.
+impl fmt::Display for Event {
+    fn fmt<W: fmt::Write>(&self, f: &mut fmt::Formatter<W>) -> fmt::Result {
+        match self {
+            Event::SideRead(_, state, rows) => write!(f, "{state}, {rows} rows in the store"),
+            Event::SeatRead(_, searches) => write!(f, "{searches} searches so far"),
+            Event::Cleared(_) => write!(f, "done"),
+            Event::Began(_, _, place) => {
+                write!(f, "begun, its ticket is in place {place} of the box")
+            }
+            Event::Refused(_, refusal) => {
+                write!(f, "refused with {}, {refusal}", refusal.number())
+            }
+        }
+    }
 }

@@ -2,6 +2,8 @@
 ghost use Rattle.std.specs.Prelude.{◌≡◌};
 ghost use Rattle.card.specs.Refusals.{number as number_of};
 
+use std::fmt;
+
 #[derive(Clone, Copy, PartialEq, Eq, Debug)]
 pub enum Refusal {
     // a number of the header does not fit its field
@@ -34,5 +36,19 @@ impl Refusal {
             Refusal::NotSetAside => 26,
             Refusal::LookupOpen => 27,
         }
+    }
+}
+
+impl fmt::Display for Refusal {
+    fn fmt<W: fmt::Write>(&self, f: &mut fmt::Formatter<W>) -> fmt::Result {
+        f.write_str(match self {
+            Refusal::HeaderTooWide => "a number of the header does not fit its field",
+            Refusal::StoreNotEmpty => "the store was not empty when the card was built",
+            Refusal::OutOfRange => "there is no such side or seat",
+            Refusal::NotFree => "the seat is taken",
+            Refusal::NothingInForce => "no list is in force",
+            Refusal::NotSetAside => "the side is not set aside",
+            Refusal::LookupOpen => "an open look-up began on the side",
+        })
     }
 }

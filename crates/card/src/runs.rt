@@ -4,9 +4,10 @@ ghost use Rattle.card.specs.Views.{call_of};
 ghost use Rattle.card.specs.Calls.{OneCall};
 ghost use Rattle.card.specs.Runs.{filed, all_filed, Went, Ran};
 
-use crate::boxes::{Slot, put};
+use crate::boxes::put;
 use crate::cards::Card;
 use crate::events::{Call, Event};
+use crate::tickets::LookupTicket;
 use policy::fields::Header;
 use std::alloc::{AllocError, Global};
 use store::traits::Store;
@@ -16,17 +17,16 @@ fn run_look_up<S: Store>(
     card: &mut Card<S>,
     seat: usize,
     header: Header,
-    tickets: &mut [Slot],
+    tickets: &mut [Option<LookupTicket>],
     place: usize,
 ) -> Event
-    ensures one { OneCall S.Store.contents S.Store.sound card.old result card.new }
+    ensures one { OneCall S.Store.contents S.Store.frame card.old result card.new }
     ensures call { call_of result ≡ Call.LookUp seat header place }
     ensures filed { tickets.new ≡ filed card.old.number tickets.old result }
-    ensures frame { S.Store.frame card.new.store ≡ S.Store.frame card.old.store }
 {
     match card.look_up(seat, header) {
         Ok(ticket) => {
-            put(tickets, place, Slot::Lookup(ticket));
+            put(tickets, place, Some(ticket));
             Event::Began(seat, header, place)
         }
         Err(refusal) => Event::Refused(Call::LookUp(seat, header, place), refusal),
@@ -34,11 +34,10 @@ fn run_look_up<S: Store>(
 }
 
 // Makes one call.
-fn run_one<S: Store>(card: &mut Card<S>, call: Call, tickets: &mut [Slot]) -> Event
-    ensures one { OneCall S.Store.contents S.Store.sound card.old result card.new }
+fn run_one<S: Store>(card: &mut Card<S>, call: Call, tickets: &mut [Option<LookupTicket>]) -> Event
+    ensures one { OneCall S.Store.contents S.Store.frame card.old result card.new }
     ensures call { call_of result ≡ call }
     ensures filed { tickets.new ≡ filed card.old.number tickets.old result }
-    ensures frame { S.Store.frame card.new.store ≡ S.Store.frame card.old.store }
 {
     match call {
         Call::ReadSide(side) => match card.read_side(side) {
@@ -63,11 +62,10 @@ pub fn run<S: Store>(
     heap: Global,
     card: &mut Card<S>,
     calls: &[Call],
-    tickets: &mut [Slot],
+    tickets: &mut [Option<LookupTicket>],
 ) -> Result<Vec<Event>, AllocError>
-    ensures went { MatchResult result (λ log. Went S.Store.contents S.Store.sound card.old calls.now log.items card.new) (λ _. card.new ≡ card.old) }
+    ensures went { MatchResult result (λ log. Went S.Store.contents S.Store.frame card.old calls.now log.items card.new) (λ _. card.new ≡ card.old) }
     ensures tickets { MatchResult result (λ log. tickets.new ≡ all_filed card.old.number tickets.old log.items) (λ _. tickets.new ≡ tickets.old) }
-    ensures frame { S.Store.frame card.new.store ≡ S.Store.frame card.old.store }
 {
     let mut log = Vec::with_capacity(heap, calls.len())?;
     for call in calls {
@@ -83,11 +81,10 @@ pub fn run_new<S: Store + Drop>(
     number: u32,
     store: S,
     calls: &[Call],
-    tickets: &mut [Slot],
+    tickets: &mut [Option<LookupTicket>],
 ) -> Result<(Card<S>, Vec<Event>), AllocError>
-    ensures ran { IfOk result (λ p. Ran S.Store.contents S.Store.sound number store calls.now p.1.items p.0) }
+    ensures ran { IfOk result (λ p. Ran S.Store.contents S.Store.frame number store calls.now p.1.items p.0) }
     ensures tickets { MatchResult result (λ p. tickets.new ≡ all_filed number tickets.old p.1.items) (λ _. tickets.new ≡ tickets.old) }
-    ensures frame { IfOk result (λ p. S.Store.frame p.0.store ≡ S.Store.frame store) }
 {
     let mut card = Card::new(heap, number, store)?;
     let log = run(heap, &mut card, calls, tickets)?;

@@ -2,6 +2,8 @@
 ghost use Rattle.std.specs.Prelude.{◌≡◌};
 ghost use Rattle.card.specs.States.{becomes};
 
+use std::fmt;
+
 #[derive(Clone, Copy, PartialEq, Eq, Debug)]
 pub enum SideState {
     // nothing is loaded
@@ -14,6 +16,18 @@ pub enum SideState {
     InForce,
     // no look-up begins here any more, and rows are left to clear
     SetAside,
+}
+
+impl fmt::Display for SideState {
+    fn fmt<W: fmt::Write>(&self, f: &mut fmt::Formatter<W>) -> fmt::Result {
+        f.write_str(match self {
+            SideState::Free => "free",
+            SideState::Loading => "loading",
+            SideState::Ready => "ready",
+            SideState::InForce => "in force",
+            SideState::SetAside => "set aside",
+        })
+    }
 }
 
 // What may happen to a side.

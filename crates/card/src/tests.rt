@@ -1,7 +1,6 @@
 // Examples of calls on a card over a flat store.
-use crate::boxes::Slot;
 use crate::cards::{Card, SideReading};
-use crate::events::Call;
+use crate::events::{Call, Event};
 use crate::refusals::Refusal;
 use crate::runs::run_new;
 use crate::states::SideState;
@@ -58,9 +57,22 @@ fn store_with_rows_is_refused(rt: HostRuntime) -> Result<(), Fail> {
         Call::Clear(0),
         Call::LookUp(0, Header { numbers: [0; 5] }, 0),
     ];
-    let mut tickets = [Slot::Empty];
+    let mut tickets = [None];
     let (card, log) = run_new(rt.alloc(), 7, store, &calls, &mut tickets)?;
     assert!(rt; log.len() == 3);
     assert_eq!(rt; card.read_seat(9), Err(Refusal::StoreNotEmpty));
+    Ok(())
+}
+
+#[test]
+fn calls_and_answers_are_told_in_words(rt: HostRuntime) -> Result<(), Fail> {
+    let call = Call::Clear(2);
+    let read = Event::SideRead(2, SideState::SetAside, 9);
+    let refused = Event::Refused(call, Refusal::LookupOpen);
+    let text = format!(in rt.alloc(); "{call}: {read}; {refused}")?;
+    assert_eq!(rt;
+        text.as_str(),
+        "clear a row of side 2: set aside, 9 rows in the store; refused with 27, an open look-up began on the side"
+    );
     Ok(())
 }

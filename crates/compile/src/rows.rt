@@ -10,13 +10,10 @@ use arrayvec::ArrayVec;
 use chain::probe::block_key;
 use diagram::edges::Edge;
 use policy::fields::FIELDS;
-use store::row::Row;
-
-// The most rows of a chain.
-pub const MAX_ROWS: usize = 1024;
+use store::row::{CHAIN_ROWS, Row};
 
 // The rows of a chain in the making.
-pub type Rows = ArrayVec<Row, MAX_ROWS>;
+pub type Rows = ArrayVec<Row, CHAIN_ROWS>;
 
 // For each node of each level, which block lengths occur in its table, as the bits of a number.
 pub type Lengths = [[u64; MAX_NODES]; FIELDS];

@@ -3,21 +3,21 @@ ghost use Rattle.std.specs.Prelude.{◌≡◌, length, take};
 
 use crate::levels::MAX_NODES;
 use crate::places::Place;
-use crate::rows::{Lengths, MAX_ROWS};
+use crate::rows::Lengths;
 use policy::fields::FIELDS;
-use store::row::Row;
+use store::row::{CHAIN_ROWS, Row};
 
 // The rows of a chain, from the first place on, and for each node of each level which block lengths occur in its
 // table, as the bits of a number.
 #[derive(Clone, Copy)]
 pub struct Tables {
-    pub rows: [Row; MAX_ROWS],
+    pub rows: [Row; CHAIN_ROWS],
     pub lengths: Lengths,
 }
 
 // Tables without rows.
 pub const NO_TABLES: Tables = Tables {
-    rows: [Row { key: 0, result: 0 }; MAX_ROWS],
+    rows: [Row { key: 0, result: 0 }; CHAIN_ROWS],
     lengths: [[0; MAX_NODES]; FIELDS],
 };
 

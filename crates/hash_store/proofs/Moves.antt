@@ -1,28 +1,30 @@
 -- Taking a row out: the rows that pass its cell move back, one after the other.
-use Rattle.std.proofs.Common.{◌≡◌, ℕ, ◌+◌, ◌-◌, ◌<◌, ◌≤◌, true, false, cond, eqb, ◌≢◌, ◌⊎◌, length, Some, None, sym, refl, ap, ◌∙◌, subst, ⊎_elim, arith}
+use Rattle.std.proofs.Common.{◌≡◌, ℕ, ◌+◌, ◌-◌, ◌<◌, ◌≤◌, true, false, cond, eqb, ◌≢◌, ◌⊎◌, length, Some, None, sym, refl, ap, is_some, Option, ◌∙◌, subst, ⊎_elim, arith}
 use Rattle.std.proofs.lemmas.Bool.{eq-eqb, ne_eqb, cases_eq, cases_lt, cases_order, both_ways}
+use Rattle.std.proofs.Math.Logic.{∥∥₁_elim, ∥∥₁_prop}
+use Rattle.std.proofs.lemmas.Grind.{merely}
+use Rattle.std.proofs.Props.{props}
 use Rattle.store.specs.Rows.{find}
-use Rattle.hash_store.specs.declared.cell.Cell.{Cell}
-use Rattle.hash_store.specs.Cells.{rows_of, home_of, home_lt, at, Apart, Unpassed}
+use Rattle.store.specs.declared.row.Row.{Row}
+use Rattle.hash_store.specs.Cells.{rows_of, row_of, Sound, home_of, home_lt, at, Apart, Unpassed}
 use Rattle.hash_store.specs.Helds.{find_nowhere}
 use Rattle.hash_store.specs.Shifts.{Ready, Clear, Settled, Removed}
-use Rattle.hash_store.specs.Hashes.{Sound}
 use Rattle.hash_store.proofs.Around.{at_zero, at_lt, at_inj, at_on, at_diff, at_back, dist}
 use Rattle.hash_store.proofs.Probes.{find_somewhere, cell_cases, rows_alike, rows_more}
 
 -- The cells f on the way from f0: the row in the cell i0 is out, the cells up to d on from it are
 -- passed, and the cell hole, a on from it, is the one to fill. The cell z, which no row stands beyond,
 -- is not before the hole.
-pub record State (f0 f : ℕ → Cell) (m i0 d hole : ℕ) : Type 0 where
+pub record State (f0 f : ℕ → Option Row) (m i0 d hole : ℕ) : Type 0 where
   pub a : ℕ
   pub a_lt : a < d
   pub d_le : d ≤ m
   pub i_lt : i0 < m
   pub at_hole : at m i0 a ≡ hole
-  pub flags : (x : ℕ) → (f x).used ≡ (f0 x).used
-  pub used : (f hole).used ≡ true
+  pub flags : (x : ℕ) → is_some (f x) ≡ is_some (f0 x)
+  pub used : is_some (f hole) ≡ true
   -- each row but the one in the hole is found
-  pub reach : (w : ℕ) → w < m → (f w).used ≡ false → Clear f m hole w
+  pub reach : (w : ℕ) → w < m → is_some (f w) ≡ false → Clear f m hole w
   pub z : ℕ
   pub dz : ℕ
   pub dz_lt : dz < m
@@ -30,23 +32,23 @@ pub record State (f0 f : ℕ → Cell) (m i0 d hole : ℕ) : Type 0 where
   pub a_le : a ≤ dz
   pub cut : Clear f m hole z
   -- the rows passed since the hole do not stand beyond it
-  pub near : (e : ℕ) → 0 < e → e < d - a → (k : ℕ) → k < m → at m (home_of (f (at m hole e)).key m) k ≡ at m hole e → k < e
-  pub apart : (x y : ℕ) → x < m → y < m → x ≢ y → x ≢ hole → y ≢ hole → (f x).used ≡ true → (f y).used ≡ true → (f x).key ≡ (f y).key → ⊥
-  pub down : (x : ℕ) → x < m → x ≢ hole → (f x).used ≡ true → (y : ℕ) × (y < m) × (y ≢ i0) × ((f0 y).used ≡ true) × (f x ≡ f0 y)
-  pub up : (y : ℕ) → y < m → y ≢ i0 → (f0 y).used ≡ true → (x : ℕ) × (x < m) × (x ≢ hole) × (f x ≡ f0 y)
+  pub near : (e : ℕ) → 0 < e → e < d - a → (k : ℕ) → k < m → at m (home_of (row_of (f (at m hole e))).key m) k ≡ at m hole e → k < e
+  pub apart : (x y : ℕ) → x < m → y < m → x ≢ y → x ≢ hole → y ≢ hole → is_some (f x) ≡ true → is_some (f y) ≡ true → (row_of (f x)).key ≡ (row_of (f y)).key → ⊥
+  pub down : (x : ℕ) → x < m → x ≢ hole → is_some (f x) ≡ true → (y : ℕ) × (y < m) × (y ≢ i0) × (is_some (f0 y) ≡ true) × (f x ≡ f0 y)
+  pub up : (y : ℕ) → y < m → y ≢ i0 → is_some (f0 y) ≡ true → (x : ℕ) × (x < m) × (x ≢ hole) × (f x ≡ f0 y)
 
 -- No key in two cells, whichever comes first.
-apart_all : (f : ℕ → Cell) (m : ℕ) → Apart f m → (x y : ℕ) → x < m → y < m → x ≢ y → (f x).used ≡ true → (f y).used ≡ true → (f x).key ≡ (f y).key → ⊥
+apart_all : (f : ℕ → Option Row) (m : ℕ) → Apart f m → (x y : ℕ) → x < m → y < m → x ≢ y → is_some (f x) ≡ true → is_some (f y) ≡ true → (row_of (f x)).key ≡ (row_of (f y)).key → ⊥
 apart_all f m a x y l k ne u v e =
     ⊎_elim
     (λ (s : x ≡ y). ne s)
     (λ (o : (x < y) ⊎ (y < x)). ⊎_elim (λ (s : x < y). a x y (s, k, u, v, e)) (λ (s : y < x). a y x (s, l, v, u, sym e)) o)
     (cases_order x y)
 
-clear_from : (f : ℕ → Cell) (m hole z : ℕ) → Unpassed f m z → Clear f m hole z
+clear_from : (f : ℕ → Option Row) (m hole z : ℕ) → Unpassed f m z → Clear f m hole z
 clear_from f m hole z r i d e l ne u dl p el q = r i d e (l, u, dl, p, el, q)
 
-pub start : (f : ℕ → Cell) (m i : ℕ) → Ready f m i → State f f m i 1 i
+pub start : (f : ℕ → Option Row) (m i : ℕ) → Ready f m i → State f f m i 1 i
 start f m i r =
     let h = r.here in
     let c = r.cut in
@@ -72,7 +74,7 @@ start f m i r =
       up = λ y l ne u. (y, l, ne, refl);
     }
 
-module _ (f0 f : ℕ → Cell) (m i0 d hole : ℕ) (s : State f0 f m i0 d hole) where
+module _ (f0 f : ℕ → Option Row) (m i0 d hole : ℕ) (s : State f0 f m i0 d hole) where
   pub hole_lt : hole < m
   hole_lt = let P : ℕ → Type 0 = λ x. x < m in subst P s.at_hole (at_lt m i0 s.a s.i_lt (omega (arith, s.a_lt, s.d_le)))
 
@@ -84,10 +86,10 @@ module _ (f0 f : ℕ → Cell) (m i0 d hole : ℕ) (s : State f0 f m i0 d hole) 
   settled c = record { within = hole_lt; flags = s.flags; used = s.used; reach = s.reach; clear = c; apart = s.apart; down = s.down; up = s.up }
 
   -- A row beyond the hole is not one of those passed since.
-  beyond : (x k e : ℕ) → x < m → k < m → at m (home_of (f x).key m) k ≡ x → e < k → at m (home_of (f x).key m) e ≡ hole → (at m hole (k - e) ≡ x) × (d - s.a ≤ k - e)
+  beyond : (x k e : ℕ) → x < m → k < m → at m (home_of (row_of (f x)).key m) k ≡ x → e < k → at m (home_of (row_of (f x)).key m) e ≡ hole → (at m hole (k - e) ≡ x) × (d - s.a ≤ k - e)
   beyond x k e l kl way el ph =
-      let on : at m hole (k - e) ≡ x = at_diff m (home_of (f x).key m) e k hole x (home_lt (f x).key m (omega arith)) (omega arith) kl ph way in
-      let R : ℕ → Type 0 = λ y. at m (home_of (f y).key m) k ≡ y in (
+      let on : at m hole (k - e) ≡ x = at_diff m (home_of (row_of (f x)).key m) e k hole x (home_lt (row_of (f x)).key m (omega arith)) (omega arith) kl ph way in
+      let R : ℕ → Type 0 = λ y. at m (home_of (row_of (f y)).key m) k ≡ y in (
         on,
         ⊎_elim
             (λ (c : k - e < d - s.a). let low : k < k - e = s.near (k - e) (omega arith) c k kl (subst R (sym on) way) in absurd (omega arith))
@@ -101,10 +103,10 @@ module _ (f0 f : ℕ → Cell) (m i0 d hole : ℕ) (s : State f0 f m i0 d hole) 
       settled
       (λ x k e l ne u kl way el ph.
       let b = beyond x k e l kl way el ph in
-      let h = home_of (f x).key m in
+      let h = home_of (row_of (f x)).key m in
       let far : e + (s.dz - s.a) < k = omega (arith, b.1, s.dz_lt, s.a_le) in
       s.cut x k (e + (s.dz - s.a)) l ne u kl way far
-      (at_on m h e (s.dz - s.a) hole (home_lt (f x).key m (omega arith)) (omega arith) ph ∙ to_cut))
+      (at_on m h e (s.dz - s.a) hole (home_lt (row_of (f x)).key m (omega arith)) (omega arith) ph ∙ to_cut))
 
   module _ (dm : d < m) (j : ℕ) (ja : j ≡ at m i0 d) where
     jl : j < m
@@ -115,21 +117,21 @@ module _ (f0 f : ℕ → Cell) (m i0 d hole : ℕ) (s : State f0 f m i0 d hole) 
     from_hole = at_diff m i0 s.a d hole j s.i_lt (omega (arith, s.a_lt)) dm s.at_hole (sym ja)
 
     -- The cell j is free: no row stands beyond it, so none beyond the hole.
-    pub end_free : (f j).used ≡ false → Settled f0 f m i0 hole
+    pub end_free : is_some (f j) ≡ false → Settled f0 f m i0 hole
     end_free free =
         settled
         (λ x k e l ne u kl way el ph.
         let b = beyond x k e l kl way el ph in
-        let h = home_of (f x).key m in
+        let h = home_of (row_of (f x)).key m in
         ⊎_elim
         (λ (same : k - e ≡ d - s.a).
         let R : ℕ → Type 0 = λ y. at m hole y ≡ x in
-        let S : ℕ → Type 0 = λ y. (f y).used ≡ true in
-        both_ways (f j).used free (subst S (sym (subst R same b.0) ∙ from_hole) u))
+        let S : ℕ → Type 0 = λ y. is_some (f y) ≡ true in
+        both_ways (is_some (f j)) free (subst S (sym (subst R same b.0) ∙ from_hole) u))
         (λ (more : k - e ≢ d - s.a).
         let far : e + (d - s.a) < k = omega (arith, b.1) in
         s.reach j jl free x k (e + (d - s.a)) l ne u kl way far
-        (at_on m h e (d - s.a) hole (home_lt (f x).key m (omega arith)) (omega arith) ph ∙ from_hole))
+        (at_on m h e (d - s.a) hole (home_lt (row_of (f x)).key m (omega arith)) (omega arith) ph ∙ from_hole))
         (cases_eq (k - e) (d - s.a)))
 
     module _ (gap : ℕ) (gl : gap < m) (gon : at m hole gap ≡ j) where
@@ -139,9 +141,9 @@ module _ (f0 f : ℕ → Cell) (m i0 d hole : ℕ) (s : State f0 f m i0 d hole) 
       apart_from : j ≢ hole
       apart_from e = let n : gap ≡ 0 = at_inj m hole gap 0 hole_lt gl (omega arith) (gon ∙ e ∙ sym (at_zero m hole hole_lt)) in omega (arith, gap_is, s.a_lt)
 
-      module _ (full : (f j).used ≡ true) (far : ℕ) (fl : far < m) (fon : at m (home_of (f j).key m) far ≡ j) where
-        hl : home_of (f j).key m < m
-        hl = home_lt (f j).key m (omega arith)
+      module _ (full : is_some (f j) ≡ true) (far : ℕ) (fl : far < m) (fon : at m (home_of (row_of (f j)).key m) far ≡ j) where
+        hl : home_of (row_of (f j)).key m < m
+        hl = home_lt (row_of (f j)).key m (omega arith)
 
         -- The row in the cell j does not stand beyond the hole.
         pub skip : far < gap → State f0 f m i0 (d + 1) hole
@@ -167,9 +169,9 @@ module _ (f0 f : ℕ → Cell) (m i0 d hole : ℕ) (s : State f0 f m i0 d hole) 
                   (λ (y : e < d - s.a). s.near e p y k kl x)
                   (λ (y : d - s.a ≤ e).
                   let same : e ≡ gap = omega (arith, gap_is, s.a_lt) in
-                  let P : ℕ → Type 0 = λ y. at m (home_of (f y).key m) k ≡ y in
-                  let Q : ℕ → Type 0 = λ y. at m (home_of (f (at m hole y)).key m) k ≡ at m hole y in
-                  let kk : k ≡ far = at_inj m (home_of (f j).key m) k far hl kl fl (subst P gon (subst Q same x) ∙ sym fon) in
+                  let P : ℕ → Type 0 = λ y. at m (home_of (row_of (f y)).key m) k ≡ y in
+                  let Q : ℕ → Type 0 = λ y. at m (home_of (row_of (f (at m hole y))).key m) k ≡ at m hole y in
+                  let kk : k ≡ far = at_inj m (home_of (row_of (f j)).key m) k far hl kl fl (subst P gon (subst Q same x) ∙ sym fon) in
                   omega arith)
                   (cases_lt e (d - s.a));
               apart = s.apart;
@@ -178,20 +180,20 @@ module _ (f0 f : ℕ → Cell) (m i0 d hole : ℕ) (s : State f0 f m i0 d hole) 
             }
 
         -- The row in the cell j goes to the hole.
-        module _ (g : ℕ → Cell) (at_h : g hole ≡ f j) (rest : (x : ℕ) → x ≢ hole → g x ≡ f x) (le : gap ≤ far) where
+        module _ (g : ℕ → Option Row) (at_h : g hole ≡ f j) (rest : (x : ℕ) → x ≢ hole → g x ≡ f x) (le : gap ≤ far) where
           moved : (x : ℕ) → x ≡ hole → g x ≡ f j
           moved x e = let R : ℕ → Type 0 = λ y. g y ≡ f j in subst R (sym e) at_h
 
-          g_flags : (x : ℕ) → (g x).used ≡ (f x).used
+          g_flags : (x : ℕ) → is_some (g x) ≡ is_some (f x)
           g_flags x =
               ⊎_elim
-              (λ (e : x ≡ hole). let P : ℕ → Type 0 = λ y. (f y).used ≡ true in ap (λ (c : Cell). c.used) (moved x e) ∙ full ∙ sym (subst P (sym e) s.used))
-              (λ (ne : x ≢ hole). ap (λ (c : Cell). c.used) (rest x ne))
+              (λ (e : x ≡ hole). let P : ℕ → Type 0 = λ y. is_some (f y) ≡ true in ap is_some (moved x e) ∙ full ∙ sym (subst P (sym e) s.used))
+              (λ (ne : x ≢ hole). ap is_some (rest x ne))
               (cases_eq x hole)
 
           -- Its way passes the hole.
-          back : at m (home_of (f j).key m) (far - gap) ≡ hole
-          back = at_back m (home_of (f j).key m) hole j gap far hl hole_lt le fl gon fon
+          back : at m (home_of (row_of (f j)).key m) (far - gap) ≡ hole
+          back = at_back m (home_of (row_of (f j)).key m) hole j gap far hl hole_lt le fl gon fon
 
           -- And so not the cell z.
           d_before : d ≤ s.dz
@@ -201,7 +203,7 @@ module _ (f0 f : ℕ → Cell) (m i0 d hole : ℕ) (s : State f0 f m i0 d hole) 
               let short : far - gap + (s.dz - s.a) < far = omega (arith, gap_is, s.a_le) in
               absurd
               (s.cut j far (far - gap + (s.dz - s.a)) jl apart_from full fl fon short
-              (at_on m (home_of (f j).key m) (far - gap) (s.dz - s.a) hole hl (omega arith) back ∙ to_cut)))
+              (at_on m (home_of (row_of (f j)).key m) (far - gap) (s.dz - s.a) hole hl (omega arith) back ∙ to_cut)))
               (λ (l : d ≤ s.dz). l)
               (cases_lt s.dz d)
 
@@ -212,17 +214,17 @@ module _ (f0 f : ℕ → Cell) (m i0 d hole : ℕ) (s : State f0 f m i0 d hole) 
               let Q : ℕ → Type 0 = λ y. at m (home_of y m) e ≡ w in
               ⊎_elim
               (λ (xh : x ≡ hole).
-              let kk : (g x).key ≡ (f j).key = ap (λ (c : Cell). c.key) (moved x xh) in
-              let same : k ≡ far - gap = at_inj m (home_of (f j).key m) k (far - gap) hl kl (omega arith) (subst P kk p ∙ xh ∙ sym back) in
+              let kk : (row_of (g x)).key ≡ (row_of (f j)).key = ap (λ c. (row_of c).key) (moved x xh) in
+              let same : k ≡ far - gap = at_inj m (home_of (row_of (f j)).key m) k (far - gap) hl kl (omega arith) (subst P kk p ∙ xh ∙ sym back) in
               c j far e jl apart_from full fl fon (omega arith) (subst Q kk q))
               (λ (xh : x ≢ hole).
-              let kk : (g x).key ≡ (f x).key = ap (λ (c : Cell). c.key) (rest x xh) in
+              let kk : (row_of (g x)).key ≡ (row_of (f x)).key = ap (λ c. (row_of c).key) (rest x xh) in
               c x k e l xh (sym (g_flags x) ∙ u) kl (subst P kk p) el (subst Q kk q))
               (cases_eq x hole)
 
-          move_apart : (x y : ℕ) → x < m → y < m → x ≢ y → x ≢ j → y ≢ j → (g x).used ≡ true → (g y).used ≡ true → (g x).key ≡ (g y).key → ⊥
+          move_apart : (x y : ℕ) → x < m → y < m → x ≢ y → x ≢ j → y ≢ j → is_some (g x) ≡ true → is_some (g y) ≡ true → (row_of (g x)).key ≡ (row_of (g y)).key → ⊥
           move_apart x y xl yl ne xj yj u v e =
-              let key : Cell → ℕ = λ c. c.key in
+              let key : Option Row → ℕ = λ c. (row_of c).key in
               ⊎_elim
               (λ (xh : x ≡ hole).
               let yh : y ≢ hole = λ w. ne (xh ∙ sym w) in
@@ -269,15 +271,15 @@ module _ (f0 f : ℕ → Cell) (m i0 d hole : ℕ) (s : State f0 f m i0 d hole) 
               }
 
 -- The hole is made free.
-module _ (f0 f g : ℕ → Cell) (m i hole : ℕ) (s : Settled f0 f m i hole) (off : (g hole).used ≡ false) (rest : (x : ℕ) → x ≢ hole → g x ≡ f x) where
-  not_hole : (x : ℕ) → (g x).used ≡ true → x ≢ hole
-  not_hole x u e = let P : ℕ → Type 0 = λ y. (g y).used ≡ false in both_ways (g x).used (subst P (sym e) off) u
+module _ (f0 f g : ℕ → Option Row) (m i hole : ℕ) (s : Settled f0 f m i hole) (off : is_some (g hole) ≡ false) (rest : (x : ℕ) → x ≢ hole → g x ≡ f x) where
+  not_hole : (x : ℕ) → is_some (g x) ≡ true → x ≢ hole
+  not_hole x u e = let P : ℕ → Type 0 = λ y. is_some (g y) ≡ false in both_ways (is_some (g x)) (subst P (sym e) off) u
 
-  was_used : (x : ℕ) → (g x).used ≡ true → (f x).used ≡ true
-  was_used x u = sym (ap (λ (c : Cell). c.used) (rest x (not_hole x u))) ∙ u
+  was_used : (x : ℕ) → is_some (g x) ≡ true → is_some (f x) ≡ true
+  was_used x u = sym (ap is_some (rest x (not_hole x u))) ∙ u
 
-  key_rest : (x : ℕ) → x ≢ hole → (g x).key ≡ (f x).key
-  key_rest x ne = ap (λ (c : Cell). c.key) (rest x ne)
+  key_rest : (x : ℕ) → x ≢ hole → (row_of (g x)).key ≡ (row_of (f x)).key
+  key_rest x ne = ap (λ c. (row_of c).key) (rest x ne)
 
   freed : (z : ℕ) → Clear f m hole z → Unpassed g m z
   freed z c x d e w =
@@ -287,16 +289,16 @@ module _ (f0 f g : ℕ → Cell) (m i hole : ℕ) (s : Settled f0 f m i hole) (o
       let Q : ℕ → Type 0 = λ y. at m (home_of y m) e ≡ z in
       c x d e w.0 ne (was_used x w.1) w.2 (subst P kk w.3) w.4 (subst Q kk w.5)
 
-  freed_reach : (z : ℕ) → z < m → (g z).used ≡ false → Unpassed g m z
+  freed_reach : (z : ℕ) → z < m → is_some (g z) ≡ false → Unpassed g m z
   freed_reach z l free =
       ⊎_elim
       (λ (zh : z ≡ hole). let P : ℕ → Type 0 = λ y. Unpassed g m y in subst P (sym zh) (freed hole s.clear))
-      (λ (zh : z ≢ hole). freed z (s.reach z l (sym (ap (λ (c : Cell). c.used) (rest z zh)) ∙ free)))
+      (λ (zh : z ≢ hole). freed z (s.reach z l (sym (ap is_some (rest z zh)) ∙ free)))
       (cases_eq z hole)
 
   fewer : length (rows_of g m) + 1 ≡ length (rows_of f0 m)
   fewer =
-      let more = rows_more g f m hole s.within (λ x ne. sym (ap (λ (c : Cell). c.used) (rest x ne))) off s.used in
+      let more = rows_more g f m hole s.within (λ x ne. sym (ap is_some (rest x ne))) off s.used in
       omega (arith, more, rows_alike f0 f m (λ x l. s.flags x))
 
   pub finish : Removed f0 g m i
@@ -316,37 +318,44 @@ module _ (f0 f g : ℕ → Cell) (m i hole : ℕ) (s : Settled f0 f m i hole) (o
             λ y l ne u.
             let w = s.up y l ne u in
             let e : g w.0 ≡ f0 y = rest w.0 w.2 ∙ w.3 in
-            (w.0, w.1, ap (λ (c : Cell). c.used) e ∙ u, e);
+            (w.0, w.1, ap is_some e ∙ u, e);
       }
 
 -- What is left when the row of the key q in the cell i is out.
-module _ (f g : ℕ → Cell) (m n i q : ℕ) (k : Sound f m n) (here : i < m) (u : (f i).used ≡ true) (e : (f i).key ≡ q) where
-  pub ready : Ready f m i
-  ready = record { here = here; used = u; apart = k.apart; reach = k.reach; cut = k.cut (omega arith) }
+module _ (f g : ℕ → Option Row) (m n i q : ℕ) (k : Sound f m n) (here : i < m) (u : is_some (f i) ≡ true) (e : (row_of (f i)).key ≡ q) (removed : Ready f m i → Removed f g m i) where
+  out : {P : Type 0} → IsProp P → (Removed f g m i → P) → P
+  out p then = ∥∥₁_elim (k.cut (omega arith)) p (λ c. then (removed (record { here = here; used = u; apart = k.apart; reach = k.reach; cut = c })))
 
-  module _ (r : Removed f g m i) where
-    pub removed_sound : Sound g m (n - 1)
-    removed_sound = record { counted = omega (arith, r.fewer, k.counted); apart = r.apart; reach = r.reach; cut = λ pos. r.cut }
+  pub removed_sound : Sound g m (n - 1)
+  removed_sound = record {
+    counted = out (Prim.hlevel props) (λ r. omega (arith, r.fewer, k.counted));
+    apart = λ x y w. out (Prim.hlevel props) (λ r. r.apart x y w);
+    reach = λ z l free x d e w. out (Prim.hlevel props) (λ r. r.reach z l free x d e w);
+    cut = λ pos. out ∥∥₁_prop (λ r. merely r.cut);
+  }
 
-    pub removed_finds : (p : ℕ) → find (rows_of g m) p ≡ cond (eqb p q) None (find (rows_of f m) p)
-    removed_finds p =
-        let key : Cell → ℕ = λ c. c.key in
-        ⊎_elim
-        (λ (same : p ≡ q).
-        rw (eq-eqb p q same)
-        (find_nowhere g m p
-        (λ x l v h. let w = r.down x l v in apart_all f m k.apart w.0 i w.1 here w.2 w.3 u (sym (ap key w.4) ∙ h ∙ same ∙ sym e))))
-        (λ (other : p ≡ q → ⊥).
-        rw (ne_eqb p q other)
-        (⊎_elim
-        (λ (h : (j : ℕ) × (j < m) × ((f j).used ≡ true) × ((f j).key ≡ p)).
-        let P : ℕ → Type 0 = λ y. (f y).key ≡ p in
-        let w = r.up h.0 h.1 (λ y. other (sym (subst P y h.3) ∙ e)) h.2 in
-        find_somewhere g m p w.0 r.apart w.1 w.2 (ap key w.3 ∙ h.3)
-        ∙ ap (λ (c : Cell). Some c.result) w.3
-        ∙ sym (find_somewhere f m p h.0 k.apart h.1 h.2 h.3))
-        (λ (b : (j : ℕ) → j < m → (f j).used ≡ true → (f j).key ≡ p → ⊥).
-        find_nowhere g m p (λ x l v h. let w = r.down x l v in b w.0 w.1 w.3 (sym (ap key w.4) ∙ h))
-        ∙ sym (find_nowhere f m p b))
-        (cell_cases f p m)))
-        (cases_eq p q)
+  pub removed_fewer : length (rows_of g m) + 1 ≡ length (rows_of f m)
+  removed_fewer = out (Prim.hlevel props) (λ r. r.fewer)
+
+  pub removed_finds : (p : ℕ) → find (rows_of g m) p ≡ cond (eqb p q) None (find (rows_of f m) p)
+  removed_finds p = out (Prim.hlevel props) (λ r.
+      let key : Option Row → ℕ = λ c. (row_of c).key in
+      ⊎_elim
+      (λ (same : p ≡ q).
+      rw (eq-eqb p q same)
+      (find_nowhere g m p
+      (λ x l v h. let w = r.down x l v in apart_all f m k.apart w.0 i w.1 here w.2 w.3 u (sym (ap key w.4) ∙ h ∙ same ∙ sym e))))
+      (λ (other : p ≡ q → ⊥).
+      rw (ne_eqb p q other)
+      (⊎_elim
+      (λ (h : (j : ℕ) × (j < m) × (is_some (f j) ≡ true) × ((row_of (f j)).key ≡ p)).
+      let P : ℕ → Type 0 = λ y. (row_of (f y)).key ≡ p in
+      let w = r.up h.0 h.1 (λ y. other (sym (subst P y h.3) ∙ e)) h.2 in
+      find_somewhere g m p w.0 r.apart w.1 w.2 (ap key w.3 ∙ h.3)
+      ∙ ap (λ (c : Option Row). Some (row_of c).result) w.3
+      ∙ sym (find_somewhere f m p h.0 k.apart h.1 h.2 h.3))
+      (λ (b : (j : ℕ) → j < m → is_some (f j) ≡ true → (row_of (f j)).key ≡ p → ⊥).
+      find_nowhere g m p (λ x l v h. let w = r.down x l v in b w.0 w.1 w.3 (sym (ap key w.4) ∙ h))
+      ∙ sym (find_nowhere f m p b))
+      (cell_cases f p m)))
+      (cases_eq p q))

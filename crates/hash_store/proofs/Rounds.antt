@@ -1,17 +1,17 @@
 -- A search in two straight parts: from a key's home to the last cell, and from the first on.
-use Rattle.std.proofs.Common.{◌≡◌, ℕ, ◌+◌, ◌-◌, ◌<◌, ◌≤◌, true, Some, None, Option, sym, ◌∙◌, subst, ⊎_elim, arith, MatchOption}
+use Rattle.std.proofs.Common.{◌≡◌, ℕ, ◌+◌, ◌-◌, ◌<◌, ◌≤◌, true, Some, None, Option, is_some, sym, ◌∙◌, subst, ⊎_elim, arith, MatchOption}
 use Rattle.std.proofs.lemmas.Bool.{cases_lt}
-use Rattle.hash_store.specs.declared.cell.Cell.{Cell}
-use Rattle.hash_store.specs.Cells.{home_of, at, Passed, Stops, Seen, Ends}
+use Rattle.store.specs.declared.row.Row.{Row}
+use Rattle.hash_store.specs.Cells.{row_of, home_of, at, Passed, Stops, Seen, Ends}
 use Rattle.hash_store.proofs.Around.{at_near, at_far}
 
 -- The first d cells from h on are used, for other keys.
-abbrev SeenFrom : (ℕ → Cell) → ℕ → ℕ → ℕ → ℕ → Type 0
-SeenFrom f m q h d = (e : ℕ) → e < d → ((f (at m h e)).used ≡ true) × ((f (at m h e)).key ≡ q → ⊥)
+abbrev SeenFrom : (ℕ → Option Row) → ℕ → ℕ → ℕ → ℕ → Type 0
+SeenFrom f m q h d = (e : ℕ) → e < d → (is_some (f (at m h e)) ≡ true) × ((row_of (f (at m h e))).key ≡ q → ⊥)
 
-module _ (f : ℕ → Cell) (m q h : ℕ) (hl : h < m) where
+module _ (f : ℕ → Option Row) (m q h : ℕ) (hl : h < m) where
   abbrev Other : ℕ → Type 0
-  Other j = ((f j).used ≡ true) × ((f j).key ≡ q → ⊥)
+  Other j = (is_some (f j) ≡ true) × ((row_of (f j)).key ≡ q → ⊥)
 
   near : (i : ℕ) → i ≤ m → Passed f q h i → SeenFrom f m q h (i - h)
   near i l p e el = subst Other (sym (at_near m h e (omega arith))) (p (h + e) (omega arith) (omega arith))
@@ -27,7 +27,7 @@ module _ (f : ℕ → Cell) (m q h : ℕ) (hl : h < m) where
     -- The first part ends at i.
     pub first : (i : ℕ) → Stops f q h m i → Ends f m q i
     first i s =
-        let P : ℕ → Type 0 = λ x. (d : ℕ) × (d < m) × (i ≡ at m x d) × (i < m) × ((f i).used ≡ true → (f i).key ≡ q) × SeenFrom f m q x d in
+        let P : ℕ → Type 0 = λ x. (d : ℕ) × (d < m) × (i ≡ at m x d) × (i < m) × (is_some (f i) ≡ true → (row_of (f i)).key ≡ q) × SeenFrom f m q x d in
         let d = i - h in
         let there : h + d ≡ i = omega (arith, s.low) in
         subst P home (d, omega (arith, s.high), sym (at_near m h d (omega (arith, s.high)) ∙ there), s.high, s.has, near i (omega (arith, s.high)) s.before)
@@ -40,7 +40,7 @@ module _ (f : ℕ → Cell) (m q h : ℕ) (hl : h < m) where
         let all : h + m - h ≡ m = omega arith in
         subst P home (subst Q all (far h (omega arith) p r))
     second (Some i) p r =
-        let P : ℕ → Type 0 = λ x. (d : ℕ) × (d < m) × (i ≡ at m x d) × (i < m) × ((f i).used ≡ true → (f i).key ≡ q) × SeenFrom f m q x d in
+        let P : ℕ → Type 0 = λ x. (d : ℕ) × (d < m) × (i ≡ at m x d) × (i < m) × (is_some (f i) ≡ true → (row_of (f i)).key ≡ q) × SeenFrom f m q x d in
         let d = i + m - h in
         let there : h + d - m ≡ i = omega arith in
         subst P home

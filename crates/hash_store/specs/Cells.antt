@@ -1,28 +1,25 @@
 -- The cells of a hash store: the rows that they hold, and where a key's row is looked for. The store
 -- has m cells, given as a function f from places.
-use Rattle.std.specs.Prelude.{◌≡◌, ℕ, zero, suc, ◌+◌, ◌-◌, ◌*◌, ◌/◌, ◌%◌, ◌^◌, ◌<◌, ◌≤◌, true, false, cond, List, [], ◌∷◌, ◌≢◌, bit_xor, nat_lt, slice_index_or}
+use Rattle.std.specs.Prelude.{◌≡◌, ℕ, zero, suc, ◌+◌, ◌-◌, ◌*◌, ◌/◌, ◌%◌, ◌^◌, ◌<◌, ◌≤◌, true, false, cond, List, [], ◌∷◌, length, Some, None, Option, is_some, ◌≢◌, bit_xor, nat_lt, slice_index_or}
 use Rattle.std.proofs.Common.{mod-lt}
 use Rattle.store.specs.declared.row.Row.{Row}
-use Rattle.hash_store.specs.declared.cell.Cell.{Cell}
+use Rattle.store.specs.Rows.{blank}
 use Rattle.hash_store.specs.declared.probe.Spot.{Spot}
 use Rattle.hash_store.specs.declared.probe.Spot.TheVariants.{Found, Free, Nowhere}
 
--- A free cell of zeros: what a place past the end of a list is read as.
-abbrev pub vacant : Cell
-vacant = record { key = 0; result = 0; used = false }
+-- The cell at a place; past the end of a list it is free.
+abbrev pub cell_at : List (Option Row) → ℕ → Option Row
+cell_at cs i = slice_index_or cs i None
 
--- The cell at a place.
-abbrev pub cell_at : List Cell → ℕ → Cell
-cell_at cs i = slice_index_or cs i vacant
-
--- The row in a cell.
-abbrev pub row_of : Cell → Row
-row_of c = record { key = c.key; result = c.result }
+-- The row in a cell, a row of zeros where it is free.
+abbrev pub row_of : Option Row → Row
+row_of None = blank
+row_of (Some x) = x
 
 -- The rows of the used cells, that of the last cell first.
-abbrev pub rows_of : (ℕ → Cell) → ℕ → List Row
+abbrev pub rows_of : (ℕ → Option Row) → ℕ → List Row
 rows_of f zero = []
-rows_of f (suc m) = cond (f m).used (row_of (f m) ∷ rows_of f m) (rows_of f m)
+rows_of f (suc m) = cond (is_some (f m)) (row_of (f m) ∷ rows_of f m) (rows_of f m)
 
 -- A number of 64 bits with its upper bits laid over the lower ones.
 unfoldable pub folded : ℕ → ℕ
@@ -45,36 +42,45 @@ abbrev pub at : ℕ → ℕ → ℕ → ℕ
 at m h d = cond (nat_lt (h + d) m) (h + d) (h + d - m)
 
 -- No key stands in two cells.
-abbrev pub Apart : (ℕ → Cell) → ℕ → Type 0
-Apart f m = (i j : ℕ) → (i < j) × (j < m) × ((f i).used ≡ true) × ((f j).used ≡ true) × ((f i).key ≡ (f j).key) → ⊥
+abbrev pub Apart : (ℕ → Option Row) → ℕ → Type 0
+Apart f m = (i j : ℕ) → (i < j) × (j < m) × (is_some (f i) ≡ true) × (is_some (f j) ≡ true) × ((row_of (f i)).key ≡ (row_of (f j)).key) → ⊥
 
 -- No row stands beyond the cell z: the way from a key's home to the cell i of its row, d on, does not
 -- pass z.
-abbrev pub Unpassed : (ℕ → Cell) → ℕ → ℕ → Type 0
-Unpassed f m z = (i d e : ℕ) → (i < m) × ((f i).used ≡ true) × (d < m) × (at m (home_of (f i).key m) d ≡ i) × (e < d) × (at m (home_of (f i).key m) e ≡ z) → ⊥
+abbrev pub Unpassed : (ℕ → Option Row) → ℕ → ℕ → Type 0
+Unpassed f m z = (i d e : ℕ) → (i < m) × (is_some (f i) ≡ true) × (d < m) × (at m (home_of (row_of (f i)).key m) d ≡ i) × (e < d) × (at m (home_of (row_of (f i)).key m) e ≡ z) → ⊥
 
 -- The first d cells from a key's home on are used, for other keys.
-abbrev pub Seen : (ℕ → Cell) → ℕ → ℕ → ℕ → Type 0
-Seen f m q d = (e : ℕ) → e < d → ((f (at m (home_of q m) e)).used ≡ true) × ((f (at m (home_of q m) e)).key ≢ q)
+abbrev pub Seen : (ℕ → Option Row) → ℕ → ℕ → ℕ → Type 0
+Seen f m q d = (e : ℕ) → e < d → (is_some (f (at m (home_of q m) e)) ≡ true) × ((row_of (f (at m (home_of q m) e))).key ≢ q)
 
 -- The cells from a to below b are used, for other keys.
-abbrev pub Passed : (ℕ → Cell) → ℕ → ℕ → ℕ → Type 0
-Passed f q a b = (j : ℕ) → a ≤ j → j < b → ((f j).used ≡ true) × ((f j).key ≢ q)
+abbrev pub Passed : (ℕ → Option Row) → ℕ → ℕ → ℕ → Type 0
+Passed f q a b = (j : ℕ) → a ≤ j → j < b → (is_some (f j) ≡ true) × ((row_of (f j)).key ≢ q)
 
 -- Of the cells from a to below b, i is the first that has the key or is free.
-pub record Stops (f : ℕ → Cell) (q a b i : ℕ) : Type 0 where
+pub record Stops (f : ℕ → Option Row) (q a b i : ℕ) : Type 0 where
   pub low : a ≤ i
   pub high : i < b
-  pub has : (f i).used ≡ true → (f i).key ≡ q
+  pub has : is_some (f i) ≡ true → (row_of (f i)).key ≡ q
   pub before : Passed f q a i
 
 -- From a key's home on, i is the first cell that has the key or is free.
-abbrev pub Ends : (ℕ → Cell) → ℕ → ℕ → ℕ → Type 0
-Ends f m q i = (d : ℕ) × (d < m) × (i ≡ at m (home_of q m) d) × (i < m) × ((f i).used ≡ true → (f i).key ≡ q) × Seen f m q d
+abbrev pub Ends : (ℕ → Option Row) → ℕ → ℕ → ℕ → Type 0
+Ends f m q i = (d : ℕ) × (d < m) × (i ≡ at m (home_of q m) d) × (i < m) × (is_some (f i) ≡ true → (row_of (f i)).key ≡ q) × Seen f m q d
 
 -- What the search for a key says: the cell of its row; or the free cell where the search ended; or
 -- that it passed every cell.
-abbrev pub Says : (ℕ → Cell) → ℕ → ℕ → Spot → Type 0
-Says f m q (Found i) = (i < m) × ((f i).used ≡ true) × ((f i).key ≡ q)
-Says f m q (Free i) = (d : ℕ) × (d < m) × (i ≡ at m (home_of q m) d) × (i < m) × ((f i).used ≡ false) × Seen f m q d
+abbrev pub Says : (ℕ → Option Row) → ℕ → ℕ → Spot → Type 0
+Says f m q (Found i) = (i < m) × (is_some (f i) ≡ true) × ((row_of (f i)).key ≡ q)
+Says f m q (Free i) = (d : ℕ) × (d < m) × (i ≡ at m (home_of q m) d) × (i < m) × (is_some (f i) ≡ false) × Seen f m q d
 Says f m q Nowhere = Seen f m q m
+
+-- Cells in order hold n rows and no key twice. Each row is found from its key's home on: no row stands
+-- beyond a free cell. And there is a cell that no row stands beyond, even where none is free: then it
+-- is the cell that was filled last.
+pub record Sound (f : ℕ → Option Row) (m n : ℕ) : Type 0 where
+  pub counted : n ≡ length (rows_of f m)
+  pub apart : Apart f m
+  pub reach : (z : ℕ) → z < m → is_some (f z) ≡ false → Unpassed f m z
+  pub cut : 0 < m → ∥ ((z : ℕ) × (z < m) × Unpassed f m z) ∥₁

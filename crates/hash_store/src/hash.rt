@@ -1,12 +1,10 @@
 // A store on cells that the caller lends, by open addressing: a row stands in the first free cell
 // from its key's home on, around.
-ghost use Rattle.std.specs.Prelude.{◌≡◌, min, List, [], length, drop};
+ghost use Rattle.std.specs.Prelude.{◌≡◌, ◌^◌, ◌<◌, min, List, Option, [], length, drop};
 ghost use Rattle.std.specs.Borrow.{GName};
-ghost use Rattle.hash_store.specs.declared.cell.Cell.{Cell};
-ghost use Rattle.hash_store.specs.Cells.{cell_at, Says};
-ghost use Rattle.hash_store.specs.Hashes.{InOrder, usable_cells, hash_contents, hash_lawful, hash_frame};
+ghost use Rattle.store.specs.declared.row.Row.{Row};
+ghost use Rattle.hash_store.specs.Cells.{cell_at, Says, Sound};
 
-use crate::cell::{Cell, FREE};
 use crate::probe::{Spot, probe};
 use crate::shift::remove;
 use store::row::{MOST_ROWS, Row, StoreRefusal};
@@ -14,25 +12,27 @@ use store::traits::Store;
 
 #[derive(Drop)]
 pub struct HashStore<'a> {
-    cells: &'a mut [Cell],
+    cells: &'a mut [Option<Row>],
     // how many of the cells hold rows
     count: usize,
     tally: u64,
+    ghost in_order: { Sound (cell_at cells.now) (min (length cells.now) 4096) count },
+    ghost counts: { tally < 2 ^ 64 },
 }
 
 impl<'a> HashStore<'a> {
+    ghost use Rattle.hash_store.specs.Hashes.{usable_cells, hash_contents};
+
     // An empty store with room for as many rows as there are cells, 4,096 at most. The cells that it
     // uses are made free, and those past the first 4,096 are not used.
-    pub fn new(cells: &'a mut [Cell]) -> Self
+    pub fn new(cells: &'a mut [Option<Row>]) -> Self
         ensures lent { result.cells.ghost_name ≡ cells.entry.ghost_name }
         ensures long { length result.cells.now ≡ length cells.old }
         ensures beyond { drop 4096 result.cells.now ≡ drop 4096 cells.old }
-        ensures sound { InOrder result }
         ensures contents { hash_contents result ≡ record { rows = []; capacity = min (length cells.old) 4096; tally = 0 } }
     {
-        for i in 0..cells.len().min(MOST_ROWS) {
-            cells[i] = FREE;
-        }
+        let used = cells.len().min(MOST_ROWS);
+        cells[..used].fill(None);
         HashStore {
             cells,
             count: 0,
@@ -56,20 +56,20 @@ impl<'a> HashStore<'a> {
 }
 
 impl<'a> Store for HashStore<'a> {
-    ghost contents = { hash_contents };
+    ghost use Rattle.hash_store.specs.Hashes.{hash_contents, hash_lawful, hash_frame};
 
-    ghost sound = { InOrder };
+    ghost contents = { hash_contents };
 
     ghost lawful = { hash_lawful };
 
-    ghost Frame = { GName × List Cell };
+    ghost Frame = { GName × List (Option Row) };
 
     ghost frame = { hash_frame };
 
     fn search(&mut self, key: u64) -> Option<u16> {
         self.tally = self.tally.saturating_add(1);
         match self.spot(key) {
-            Spot::Found(i) => Some(self.cells[i].result),
+            Spot::Found(i) => self.cells[i].map(|row| row.result),
             Spot::Free(_) => None,
             Spot::Nowhere => None,
         }
@@ -80,12 +80,8 @@ impl<'a> Store for HashStore<'a> {
             Spot::Found(_) => Err(StoreRefusal::KeyPresent),
             Spot::Nowhere => Err(StoreRefusal::Full),
             Spot::Free(i) => {
-                self.cells[i] = Cell {
-                    key: row.key,
-                    result: row.result,
-                    used: true,
-                };
-                self.count = self.count.saturating_add(1);
+                self.cells[i] = Some(row);
+                self.count += 1;
                 Ok(())
             }
         }
@@ -96,7 +92,7 @@ impl<'a> Store for HashStore<'a> {
             Spot::Found(i) => {
                 let m = self.usable();
                 remove(self.cells, m, i);
-                self.count = self.count.saturating_sub(1);
+                self.count -= 1;
                 Ok(())
             }
             Spot::Free(_) => Err(StoreRefusal::KeyAbsent),

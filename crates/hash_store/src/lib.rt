@@ -1,8 +1,8 @@
 // A match store that finds rows by hashing their keys.
 #![tactic(auto)]
 
-pub mod cell;
 pub mod hash;
+mod homes;
 mod probe;
 mod shift;
 #[cfg(test)]

@@ -1,7 +1,7 @@
 // A hash store by examples. Of four cells, the keys 2, 6, 8 and 21 have the last as their home, and 0
 // has the first.
-use crate::cell::{Cell, FREE, home};
 use crate::hash::HashStore;
+use crate::homes::home;
 use crate::probe::around;
 use std::test::Fail;
 use store::row::{MOST_ROWS, Row, StoreRefusal};
@@ -9,7 +9,7 @@ use store::traits::Store;
 
 #[test]
 fn a_full_table_refuses_and_erases(rt: HostRuntime) -> Result<(), Fail> {
-    let mut cells = [FREE; 4];
+    let mut cells = [None; 4];
     let mut store = HashStore::new(&mut cells);
     for key in [2, 6, 8, 0] {
         store.write(Row { key, result: 50 })?;
@@ -33,11 +33,7 @@ fn a_full_table_refuses_and_erases(rt: HostRuntime) -> Result<(), Fail> {
 
 #[test]
 fn rows_go_round_the_last_cell(rt: HostRuntime) -> Result<(), Fail> {
-    let mut cells = [Cell {
-        key: 2,
-        result: 7,
-        used: true,
-    }; 4];
+    let mut cells = [Some(Row { key: 2, result: 7 }); 4];
     let mut store = HashStore::new(&mut cells);
     assert_eq!(rt; store.search(2), None);
     store.write(Row { key: 2, result: 20 })?;
@@ -51,7 +47,7 @@ fn rows_go_round_the_last_cell(rt: HostRuntime) -> Result<(), Fail> {
 
 #[test]
 fn no_cells_hold_no_rows(rt: HostRuntime) {
-    let mut cells = [FREE; 0];
+    let mut cells = [None; 0];
     let mut store = HashStore::new(&mut cells);
     assert_eq!(rt; store.capacity(), 0);
     assert_eq!(rt; store.search(0), None);
@@ -69,7 +65,7 @@ fn chain_key(i: u64) -> u64 {
 }
 
 // Leaves the rows of 1,024 keys of a chain in the cells.
-fn fill(cells: &mut [Cell]) -> Result<(), StoreRefusal> {
+fn fill(cells: &mut [Option<Row>]) -> Result<(), StoreRefusal> {
     let mut store = HashStore::new(cells);
     for i in 0..1024 {
         store.write(Row {
@@ -81,15 +77,14 @@ fn fill(cells: &mut [Cell]) -> Result<(), StoreRefusal> {
 }
 
 // How many cells a search for the key looks at.
-fn looked_at(cells: &[Cell], key: u64) -> usize {
+fn looked_at(cells: &[Option<Row>], key: u64) -> usize {
     let m = cells.len().min(MOST_ROWS);
     if m == 0 {
         return 0;
     }
     let h = home(key, m);
     for d in 0..m {
-        let cell = cells[around(h, d, m)];
-        if !cell.used || cell.key == key {
+        if cells[around(h, d, m)].is_none_or(|row| row.key == key) {
             return d + 1;
         }
     }
@@ -97,7 +92,7 @@ fn looked_at(cells: &[Cell], key: u64) -> usize {
 }
 
 // How many cells the searches for all 1,024 keys look at.
-fn looked_at_in_all(cells: &[Cell]) -> usize {
+fn looked_at_in_all(cells: &[Option<Row>]) -> usize {
     let mut total: usize = 0;
     for i in 0..1024 {
         total = total.saturating_add(looked_at(cells, chain_key(i)));
@@ -109,10 +104,10 @@ fn looked_at_in_all(cells: &[Cell]) -> usize {
 // of 1,100 cells.
 #[test]
 fn chains_spread_as_random_keys_do(rt: HostRuntime) -> Result<(), Fail> {
-    let mut wide = [FREE; 4096];
+    let mut wide = [None; 4096];
     fill(&mut wide)?;
     assert!(rt; looked_at_in_all(&wide) < 1280);
-    let mut narrow = [FREE; 1100];
+    let mut narrow = [None; 1100];
     fill(&mut narrow)?;
     assert!(rt; looked_at_in_all(&narrow) < 10 * 1024);
     Ok(())

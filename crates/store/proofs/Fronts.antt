@@ -41,6 +41,12 @@ module _ (cs : List Row) (n : ℕ) (fits : n ≤ length cs) where
     cells_apart : (i j : ℕ) → i < j → j < n → key_at cs i ≡ key_at cs j → ⊥
     cells_apart i j h l e = u i j h (omega (arith, long)) (key_take cs n i (omega arith) ∙ e ∙ sym (key_take cs n j l))
 
+    -- The first rows alone.
+    pub fewer_apart : (m : ℕ) → m ≤ n → NoTwice (take m cs)
+    fewer_apart m le i j h l e =
+        let lt : j < m = omega (arith, length-take-le m cs (omega arith)) in
+        cells_apart i j h (omega arith) (sym (key_take cs m i (omega arith)) ∙ e ∙ key_take cs m j lt)
+
     -- A write, at the end.
     module _ (x : Row) (room : n < length cs) (new : find (take n cs) x.key ≡ None) where
       pub after_long : length (take (n + 1) (set cs n x)) ≡ n + 1
@@ -141,9 +147,9 @@ module _ (cs : List Row) (n : ℕ) (fits : n ≤ length cs) where
 
 -- What a clause by cases says of an option that holds something, and of one that does not.
 pub some_case : (o : Option ℕ) (P : Type 0) (Q : ℕ → Type 0) → MatchOption o P Q → is_some o ≡ true → (i : ℕ) × Q i
-some_case None P Q c e = let z : ◌≡◌ {A = ℕ} 0 1 = cc in absurd (omega arith)
+some_case None P Q c e = absurd cc
 some_case (Some i) P Q c e = (i, c)
 
 pub none_case : (o : Option ℕ) (P : Type 0) (Q : ℕ → Type 0) → MatchOption o P Q → is_some o ≡ false → P
 none_case None P Q c e = c
-none_case (Some i) P Q c e = let z : ◌≡◌ {A = ℕ} 0 1 = cc in absurd (omega arith)
+none_case (Some i) P Q c e = absurd cc

@@ -37,14 +37,14 @@ find_cases (x ∷ xs) q =
 
 -- What is found is not none.
 pub found_some : (o : Option ℕ) (v : ℕ) → o ≡ Some v → o ≢ None
-found_some o v e n = let z : ◌≡◌ {A = ℕ} 0 1 = cc in omega arith
+found_some o v e n = cc
 
 -- Where none is found, no place has the key.
 pub none_found : (xs : List Row) (q : ℕ) → find xs q ≡ None → (j : ℕ) → j < length xs → key_at xs j ≢ q
 none_found [] q e j h k = omega arith
 none_found (x ∷ xs) q e j h k =
     ⊎_elim
-    (λ a. let t = eq-eqb q x.key (sym a) in let z : ◌≡◌ {A = Option ℕ} (Some x.result) None = rw t at e in let w : ◌≡◌ {A = ℕ} 0 1 = cc in omega arith)
+    (λ a. let t = eq-eqb q x.key (sym a) in let z : ◌≡◌ {A = Option ℕ} (Some x.result) None = rw t at e in cc)
     (λ a.
     let t = ne_eqb q x.key (λ b. a (sym b)) in
     let z : find xs q ≡ None = rw t at e in

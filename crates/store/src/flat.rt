@@ -1,9 +1,9 @@
 // A store on cells that the caller lends: the rows stand in the first cells, and a search goes
 // through them.
-ghost use Rattle.std.specs.Prelude.{◌≡◌, min, List, [], length, MatchOption};
+ghost use Rattle.std.specs.Prelude.{◌≡◌, ◌^◌, ◌<◌, ◌≤◌, min, List, [], length, take, MatchOption};
 ghost use Rattle.std.specs.Borrow.{GName};
 ghost use Rattle.store.specs.declared.row.Row.{Row};
-ghost use Rattle.store.specs.Flats.{InOrder, Missing, Placed, usable_cells, filled_cells, flat_contents, flat_lawful, flat_frame};
+ghost use Rattle.store.specs.Rows.{NoTwice};
 
 use crate::row::{MOST_ROWS, Row, StoreRefusal};
 use crate::traits::Store;
@@ -14,15 +14,21 @@ pub struct FlatStore<'a> {
     // how many of the cells hold rows
     count: usize,
     tally: u64,
+    // the rows have room in the first 4,096 cells
+    ghost fits: { count ≤ min (length cells.now) 4096 },
+    // no key stands twice
+    ghost apart: { NoTwice (take count cells.now) },
+    ghost counts: { tally < 2 ^ 64 },
 }
 
 impl<'a> FlatStore<'a> {
+    ghost use Rattle.store.specs.Flats.{Missing, Placed, usable_cells, flat_contents};
+
     // An empty store with room for as many rows as there are cells, 4,096 at most. What stands in
     // the cells is not read, and those past the first 4,096 are not used.
     pub fn new(cells: &'a mut [Row]) -> Self
         ensures lent { result.cells.ghost_name ≡ cells.entry.ghost_name }
         ensures cells { result.cells.now ≡ cells.old }
-        ensures sound { InOrder result }
         ensures contents { flat_contents result ≡ record { rows = []; capacity = min (length cells.old) 4096; tally = 0 } }
     {
         FlatStore {
@@ -39,30 +45,19 @@ impl<'a> FlatStore<'a> {
         self.cells.len().min(MOST_ROWS)
     }
 
-    // How many of the cells hold rows.
-    fn filled(&self) -> usize
-        ensures { result ≡ filled_cells self.now }
-    {
-        self.count.min(self.usable())
-    }
-
     // The place of the key's row.
     fn position(&self, key: u64) -> Option<usize>
         ensures { MatchOption result (Missing self.now key) (λ i. Placed self.now key i) }
     {
-        for i in 0..self.filled() {
-            if self.cells[i].key == key {
-                return Some(i);
-            }
-        }
-        None
+        let rows = &self.cells[..self.count];
+        rows.iter().position(|row| row.key == key)
     }
 }
 
 impl<'a> Store for FlatStore<'a> {
-    ghost contents = { flat_contents };
+    ghost use Rattle.store.specs.Flats.{flat_contents, flat_lawful, flat_frame};
 
-    ghost sound = { InOrder };
+    ghost contents = { flat_contents };
 
     ghost lawful = { flat_lawful };
 
@@ -72,10 +67,8 @@ impl<'a> Store for FlatStore<'a> {
 
     fn search(&mut self, key: u64) -> Option<u16> {
         self.tally = self.tally.saturating_add(1);
-        match self.position(key) {
-            Some(i) => Some(self.cells[i].result),
-            None => None,
-        }
+        let i = self.position(key)?;
+        Some(self.cells[i].result)
     }
 
     fn write(&mut self, row: Row) -> Result<(), StoreRefusal> {
@@ -96,14 +89,14 @@ impl<'a> Store for FlatStore<'a> {
         let Some(i) = self.position(key) else {
             return Err(StoreRefusal::KeyAbsent);
         };
-        let last = self.filled() - 1;
-        self.cells[i] = self.cells[last];
+        let last = self.count - 1;
         self.count = last;
+        self.cells[i] = self.cells[last];
         Ok(())
     }
 
     fn held(&self) -> usize {
-        self.filled()
+        self.count
     }
 
     fn capacity(&self) -> usize {

@@ -2,8 +2,13 @@
 ghost use Rattle.std.specs.Prelude.{◌≡◌};
 ghost use Rattle.store.specs.Meaning.{number as number_of};
 
+use std::fmt;
+
 // The most rows that a store has room for.
 pub const MOST_ROWS: usize = 4096;
+
+// The most rows of a chain, whose rows are written to a store.
+pub const CHAIN_ROWS: usize = 1024;
 
 #[derive(Clone, Copy, PartialEq, Eq, Default, Debug)]
 pub struct Row {
@@ -30,5 +35,12 @@ impl StoreRefusal {
             StoreRefusal::Full => 41,
             StoreRefusal::KeyAbsent => 42,
         }
+    }
+}
+
+// A refusal is told by its number.
+impl fmt::Display for StoreRefusal {
+    fn fmt<W: fmt::Write>(&self, f: &mut fmt::Formatter<W>) -> fmt::Result {
+        write!(f, "{}", self.number())
     }
 }

@@ -55,3 +55,10 @@ fn refusals_are_numbered(rt: HostRuntime) {
     assert_eq!(rt; StoreRefusal::Full.number(), 41);
     assert_eq!(rt; StoreRefusal::KeyAbsent.number(), 42);
 }
+
+#[test]
+fn refusals_are_told_by_number(rt: HostRuntime) -> Result<(), Fail> {
+    let text = format!(in rt.alloc(); "{}", StoreRefusal::Full)?;
+    assert_eq!(rt; text.as_str(), "41");
+    Ok(())
+}

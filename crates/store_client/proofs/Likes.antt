@@ -1,5 +1,5 @@
 -- Stores that are alike answer alike, and stay so.
-use Rattle.std.proofs.Common.{◌≡◌, ℕ, ◌<◌, cond, eqb, length, Some, None, Ok, Err, Option, Result, sym, refl, ap, ◌∙◌, subst, inl, inr, arith, MatchResult}
+use Rattle.std.proofs.Common.{◌≡◌, ℕ, ◌<◌, cond, eqb, List, [], ◌∷◌, ◌++◌, length, Some, None, Ok, Err, Option, Result, sym, refl, ap, ◌∙◌, subst, inl, inr, arith, MatchResult}
 use Rattle.questions.specs.Asking.{ask, accept, refusal}
 use Rattle.store.specs.declared.row.Row.{Row}
 use Rattle.store.specs.declared.row.StoreRefusal.{StoreRefusal}
@@ -9,8 +9,8 @@ use Rattle.store.specs.Meaning.{Contents, Searched, Added, Removed, Written, Era
 use Rattle.store_client.specs.declared.Call.{Call}
 use Rattle.store_client.specs.declared.Call.TheVariants.{Search, Write, Erase}
 use Rattle.store_client.specs.declared.Outcome.{Outcome}
-use Rattle.store_client.specs.declared.Outcome.TheVariants.{Refused}
-use Rattle.store_client.specs.Uses.{Performed, Alike, search_outcome, change_outcome}
+use Rattle.store_client.specs.declared.Outcome.TheVariants.{Found, Changed}
+use Rattle.store_client.specs.Uses.{Performed, Alike, AnsweredAlike}
 
 -- The same questions come to the same refusal.
 ask_same :
@@ -42,11 +42,11 @@ some_same a b e = cc
 change_same :
     (r q : Result (Unit {0}) StoreRefusal) (D : Result (Unit {0}) StoreRefusal → Result (Unit {0}) StoreRefusal → Type 0)
     → refusal number r ≡ refusal number q → ((x y : Unit {0}) → D (Ok x) (Ok y)) → ((e g : StoreRefusal) → D (Err e) (Err g))
-    → (change_outcome r ≡ change_outcome q) × D r q
+    → (r ≡ q) × D r q
 change_same (Ok x) (Ok y) D h a b = (refl, a x y)
-change_same (Ok x) (Err g) D h a b = let z : ◌≡◌ {A = ℕ} 0 1 = cc in absurd (omega arith)
-change_same (Err e) (Ok y) D h a b = let z : ◌≡◌ {A = ℕ} 0 1 = cc in absurd (omega arith)
-change_same (Err e) (Err g) D h a b = (ap Refused (refused_same e g (some_same (number e) (number g) h)), b e g)
+change_same (Ok x) (Err g) D h a b = absurd cc
+change_same (Err e) (Ok y) D h a b = absurd cc
+change_same (Err e) (Err g) D h a b = (ap Err (refused_same e g (some_same (number e) (number g) h)), b e g)
 
 module _ (s t s' t' : Contents) (k : Alike s t) where
   kept : s' ≡ s → t' ≡ t → Alike s' t'
@@ -84,7 +84,7 @@ module _ (s t s' t' : Contents) (k : Alike s t) where
         tally = x.tally ∙ k.tally ∙ sym y.tally;
       }
 
-  written_same : (row : Row) (r p : Result (Unit {0}) StoreRefusal) → Written s row r s' → Written t row p t' → (change_outcome r ≡ change_outcome p) × Alike s' t'
+  written_same : (row : Row) (r p : Result (Unit {0}) StoreRefusal) → Written s row r s' → Written t row p t' → (r ≡ p) × Alike s' t'
   written_same row r p x y =
       let D : Result (Unit {0}) StoreRefusal → Result (Unit {0}) StoreRefusal → Type 0 =
       λ a b. MatchResult a (λ _. Added s row s') (λ _. s' ≡ s) → MatchResult b (λ _. Added t row t') (λ _. t' ≡ t) → Alike s' t' in
@@ -97,7 +97,7 @@ module _ (s t s' t' : Contents) (k : Alike s t) where
       let w = change_same r p D h (λ _ _ a b. added_same row a b) (λ _ _ a b. kept a b) in
       (w.0, w.1 x.effect y.effect)
 
-  erased_same : (key : ℕ) (r p : Result (Unit {0}) StoreRefusal) → Erased s key r s' → Erased t key p t' → (change_outcome r ≡ change_outcome p) × Alike s' t'
+  erased_same : (key : ℕ) (r p : Result (Unit {0}) StoreRefusal) → Erased s key r s' → Erased t key p t' → (r ≡ p) × Alike s' t'
   erased_same key r p x y =
       let D : Result (Unit {0}) StoreRefusal → Result (Unit {0}) StoreRefusal → Type 0 =
       λ a b. MatchResult a (λ _. Removed s key s') (λ _. s' ≡ s) → MatchResult b (λ _. Removed t key t') (λ _. t' ≡ t) → Alike s' t' in
@@ -109,6 +109,23 @@ module _ (s t s' t' : Contents) (k : Alike s t) where
       (w.0, w.1 x.effect y.effect)
 
   pub performed_same : (c : Call) (o p : Outcome) → Performed s c o s' → Performed t c p t' → (o ≡ p) × Alike s' t'
-  performed_same (Search key) o p x y = let w = searched_same key x.0 y.0 x.1 y.1 in (x.2 ∙ ap search_outcome w.0 ∙ sym y.2, w.1)
-  performed_same (Write row) o p x y = let w = written_same row x.0 y.0 x.1 y.1 in (x.2 ∙ w.0 ∙ sym y.2, w.1)
-  performed_same (Erase key) o p x y = let w = erased_same key x.0 y.0 x.1 y.1 in (x.2 ∙ w.0 ∙ sym y.2, w.1)
+  performed_same (Search key) (Found r) (Found q) x y = let w = searched_same key r q x y in (ap Found w.0, w.1)
+  performed_same (Search key) (Found r) (Changed q) x y = elim y [ ]
+  performed_same (Search key) (Changed r) p x y = elim x [ ]
+  performed_same (Write row) (Found r) p x y = elim x [ ]
+  performed_same (Write row) (Changed r) (Found q) x y = elim y [ ]
+  performed_same (Erase key) (Found r) p x y = elim x [ ]
+  performed_same (Erase key) (Changed r) (Found q) x y = elim y [ ]
+  performed_same (Write row) (Changed r) (Changed q) x y = let w = written_same row r q x y in (ap Changed w.0, w.1)
+  performed_same (Erase key) (Changed r) (Changed q) x y = let w = erased_same key r q x y in (ap Changed w.0, w.1)
+
+-- One call more is answered alike.
+pub answered_more :
+    (s t : Contents) (cs : List Call) (s1 t1 : Contents) (c : Call) (o p : Outcome) (s2 t2 : Contents)
+    → AnsweredAlike s t cs s1 t1 → Performed s1 c o s2 → Performed t1 c p t2 → o ≡ p → AnsweredAlike s t (cs ++ c ∷ []) s2 t2
+answered_more s t [] s1 t1 c o p s2 t2 k x y e =
+    let P : Contents → Type 0 = λ z. Performed z c o s2 in
+    let Q : Contents → Type 0 = λ z. Performed z c o t2 in
+    let R : Outcome → Type 0 = λ z. Performed t1 c z t2 in
+    (o, s2, t2, subst P k.0 x, subst Q k.1 (subst R (sym e) y), (refl, refl))
+answered_more s t (d ∷ cs) s1 t1 c o p s2 t2 k x y e = (k.0, k.1, k.2, k.3, k.4, answered_more k.1 k.2 cs s1 t1 c o p s2 t2 k.5 x y e)

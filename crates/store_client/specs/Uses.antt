@@ -1,5 +1,5 @@
 -- What calls in a row do to a store's contents, and when two stores are alike.
-use Rattle.std.specs.Prelude.{◌≡◌, ℕ, ◌<◌, length, Some, None, Ok, Err, Option, Result, MatchResult, ◌≢◌}
+use Rattle.std.specs.Prelude.{◌≡◌, ℕ, ◌<◌, List, [], ◌∷◌, length, Some, None, Option, Result, MatchResult, ◌≢◌}
 use Rattle.questions.specs.Asking.{ask, accept, refusal}
 use Rattle.store.specs.declared.row.Row.{Row}
 use Rattle.store.specs.declared.row.StoreRefusal.{StoreRefusal}
@@ -8,22 +8,21 @@ use Rattle.store.specs.Meaning.{Contents, Searched, Written, Erased, number}
 use Rattle.store_client.specs.declared.Call.{Call}
 use Rattle.store_client.specs.declared.Call.TheVariants.{Search, Write, Erase}
 use Rattle.store_client.specs.declared.Outcome.{Outcome}
-use Rattle.store_client.specs.declared.Outcome.TheVariants.{Found, Missing, Done, Refused}
-
--- What a search and a change come to, by what the store answered.
-abbrev pub search_outcome : Option ℕ → Outcome
-search_outcome None = Missing
-search_outcome (Some v) = Found v
-
-abbrev pub change_outcome : Result (Unit {0}) StoreRefusal → Outcome
-change_outcome (Ok x) = Done
-change_outcome (Err e) = Refused e
+use Rattle.store_client.specs.declared.Outcome.TheVariants.{Found, Changed}
 
 -- A call, what it comes to, and the contents before and after.
 abbrev pub Performed : Contents → Call → Outcome → Contents → Type 0
-Performed before (Search key) o after = (r : Option ℕ) × Searched before key r after × (o ≡ search_outcome r)
-Performed before (Write row) o after = (r : Result (Unit {0}) StoreRefusal) × Written before row r after × (o ≡ change_outcome r)
-Performed before (Erase key) o after = (r : Result (Unit {0}) StoreRefusal) × Erased before key r after × (o ≡ change_outcome r)
+Performed before (Search key) (Found r) after = Searched before key r after
+Performed before (Search key) (Changed r) after = ⊥
+Performed before (Write row) (Found r) after = ⊥
+Performed before (Write row) (Changed r) after = Written before row r after
+Performed before (Erase key) (Found r) after = ⊥
+Performed before (Erase key) (Changed r) after = Erased before key r after
+
+-- Two stores come to the same with each of the calls, made in turn.
+abbrev pub AnsweredAlike : Contents → Contents → List Call → Contents → Contents → Type 0
+AnsweredAlike s t [] s' t' = (s' ≡ s) × (t' ≡ t)
+AnsweredAlike s t (c ∷ cs) s' t' = (o : Outcome) × (s1 t1 : Contents) × Performed s c o s1 × Performed t c o t1 × AnsweredAlike s1 t1 cs s' t'
 
 -- Two stores are alike: each key has the same result in both, and they hold as many rows, have as much
 -- room, and have made as many searches.

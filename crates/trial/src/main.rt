@@ -2,11 +2,8 @@
 // tells each step.
 #![tactic(auto)]
 
-use card::boxes::Slot;
-use card::events::{Call, Event};
-use card::refusals::Refusal;
+use card::events::Call;
 use card::runs::run_new;
-use card::states::SideState;
 use compile::calls::compile;
 use compile::places::Place;
 use policy::fields::{FIELDS, Header};
@@ -19,62 +16,6 @@ use store::row::Row;
 
 // How many rows the store has room for.
 const CELLS: usize = 1024;
-
-// The state of a side, in words.
-fn state_name(state: SideState) -> &'static str {
-    match state {
-        SideState::Free => "free",
-        SideState::Loading => "loading",
-        SideState::Ready => "ready",
-        SideState::InForce => "in force",
-        SideState::SetAside => "set aside",
-    }
-}
-
-// Why a call was refused, in words.
-fn reason(refusal: Refusal) -> &'static str {
-    match refusal {
-        Refusal::HeaderTooWide => "a number of the header does not fit its field",
-        Refusal::StoreNotEmpty => "the store was not empty when the card was built",
-        Refusal::OutOfRange => "there is no such side or seat",
-        Refusal::NotFree => "the seat is taken",
-        Refusal::NothingInForce => "no list is in force",
-        Refusal::NotSetAside => "the side is not set aside",
-        Refusal::LookupOpen => "an open look-up began on the side",
-    }
-}
-
-// Tells a call.
-fn tell_call(rt: &HostRuntime, call: Call) -> anyhow::Result<()> {
-    match call {
-        Call::ReadSide(side) => print!(rt; "read side {side}: ")?,
-        Call::ReadSeat(seat) => print!(rt; "read seat {seat}: ")?,
-        Call::Clear(side) => print!(rt; "clear a row of side {side}: ")?,
-        Call::LookUp(seat, _, _) => print!(rt; "look a header up in seat {seat}: ")?,
-    }
-    Ok(())
-}
-
-// Tells what a call answered.
-fn tell_event(rt: &HostRuntime, event: Event) -> anyhow::Result<()> {
-    match event {
-        Event::SideRead(_, state, rows) => {
-            let name = state_name(state);
-            println!(rt; "{name}, {rows} rows in the store")?;
-        }
-        Event::SeatRead(_, searches) => println!(rt; "{searches} searches so far")?,
-        Event::Cleared(_) => println!(rt; "done")?,
-        Event::Began(_, _, place) => println!(rt;
-            "begun, its ticket is in place {place} of the box"
-        )?,
-        Event::Refused(_, refusal) => {
-            let number = refusal.number();
-            let why = reason(refusal);
-            println!(rt; "refused with {number}, {why}")?;
-        }
-    }
-    Ok(())
-}
 
 // Tells an address in dotted form.
 fn tell_address(rt: &HostRuntime, address: u32) -> anyhow::Result<()> {
@@ -156,14 +97,11 @@ fn run_card(rt: &HostRuntime) -> anyhow::Result<()> {
         Call::LookUp(8, header, 0),
         Call::Clear(1),
     ];
-    let mut tickets = [Slot::Empty];
+    let mut tickets = [None];
     println!(rt; "a card on an empty store of {CELLS} rows:")?;
     let (_card, log) = run_new(rt.alloc(), 1, store, &calls, &mut tickets)?;
-    for (i, event) in log.iter().enumerate() {
-        if i < calls.len() {
-            tell_call(rt, calls[i])?;
-        }
-        tell_event(rt, *event)?;
+    for (call, event) in calls.iter().zip(&log) {
+        println!(rt; "{call}: {event}")?;
     }
     Ok(())
 }

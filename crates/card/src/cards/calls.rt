@@ -1,7 +1,7 @@
 // The calls of a card.
-ghost use Rattle.std.specs.Prelude.{◌≡◌, ℕ, ◌+◌, ◌*◌, ◌<◌, true, false, IfOk, MatchResult, slice_index_or};
+ghost use Rattle.std.specs.Prelude.{◌≡◌, ℕ, ◌+◌, ◌*◌, ◌<◌, ◌≤◌, ◌⊎◌, true, false, None, IfOk, IfErr, MatchResult, slice_index_or};
 ghost use Rattle.store.specs.Rows.{key_at};
-ghost use Rattle.card.specs.declared.cards.Seat.TheVariants.{Vacant};
+ghost use Rattle.card.specs.declared.refusals.Refusal.TheVariants.{StoreNotEmpty, OutOfRange};
 ghost use Rattle.card.specs.Views.{Right, On};
 ghost use Rattle.card.specs.Calls.{shown, OneCall, begun, clearing};
 ghost use Rattle.card.specs.Answers.{side_read, seat_read, cleared, looked_up};
@@ -28,26 +28,21 @@ fn clearing_change(held: u16) -> Change
 }
 
 // Whether an open look-up began on the side.
-fn walked(seats: &[Seat; SEATS], side: usize) -> bool
-    ensures none { result ≡ false → (k : ℕ) → On (begun (slice_index_or seats.now k Vacant)) side → ⊥ }
-    ensures some { result ≡ true → (k : ℕ) × On (begun (slice_index_or seats.now k Vacant)) side }
+fn walked(seats: &[Option<Walk>; SEATS], side: usize) -> bool
+    ensures none { result ≡ false → (k : ℕ) → On (begun (slice_index_or seats.now k None)) side → ⊥ }
+    ensures some { result ≡ true → (k : ℕ) × On (begun (slice_index_or seats.now k None)) side }
 {
-    for seat in seats.iter() {
-        if let Seat::Open(walk) = seat {
-            if walk.side == side {
-                return true;
-            }
-        }
-    }
-    false
+    seats
+        .iter()
+        .any(|seat| seat.is_some_and(|walk| walk.side == side))
 }
 
 impl<S: Store> Card<S> {
     // A card on a store, under a number; for want of memory the store comes back.
     pub fn new(heap: Global, number: u32, store: S) -> Result<Card<S>, AllocFailed<S>>
-        ensures { MatchResult result (λ c. Built S.Store.contents S.Store.sound number store c) (λ back. back.value ≡ store) }
+        ensures { MatchResult result (λ c. Built S.Store.contents number store c) (λ back. back.value ≡ store) }
     {
-        let Ok(rows) = vec![in heap; Row { key: 0, result: 0 }; 3072] else {
+        let Ok(rows) = vec![in heap; Row { key: 0, result: 0 }; SIDES * CHAIN_ROWS] else {
             return Err(AllocFailed { value: store });
         };
         let usable = store.held() == 0;
@@ -60,22 +55,31 @@ impl<S: Store> Card<S> {
             store,
             usable,
             sides: [fresh; SIDES],
-            seats: [Seat::Vacant; SEATS],
+            seats: [None; SEATS],
             current: None,
             rows,
         })
+    }
+
+    // Asks whether the store was empty at building, then whether the place is one of so many.
+    fn admit(&self, place: usize, places: usize) -> Result<(), Refusal>
+        ensures yes { IfOk result (λ _. (self.now.usable ≡ true) × (place < places)) }
+        ensures no { IfErr result (λ r. ((self.now.usable ≡ false) × (r ≡ StoreNotEmpty)) ⊎ ((self.now.usable ≡ true) × (places ≤ place) × (r ≡ OutOfRange))) }
+    {
+        if !self.usable {
+            return Err(Refusal::StoreNotEmpty);
+        }
+        if place >= places {
+            return Err(Refusal::OutOfRange);
+        }
+        Ok(())
     }
 
     // The state of a side, and how many rows of it the store holds.
     pub fn read_side(&self, side: usize) -> Result<SideReading, Refusal>
         ensures { Right (shown self.now) (side_read side result) }
     {
-        if !self.usable {
-            return Err(Refusal::StoreNotEmpty);
-        }
-        if side >= SIDES {
-            return Err(Refusal::OutOfRange);
-        }
+        self.admit(side, SIDES)?;
         let x = self.sides[side];
         Ok(SideReading {
             state: x.state,
@@ -87,17 +91,8 @@ impl<S: Store> Card<S> {
     pub fn read_seat(&self, seat: usize) -> Result<u32, Refusal>
         ensures { Right (shown self.now) (seat_read seat result) }
     {
-        if !self.usable {
-            return Err(Refusal::StoreNotEmpty);
-        }
-        if seat >= SEATS {
-            return Err(Refusal::OutOfRange);
-        }
-        let place = self.seats[seat];
-        match place {
-            Seat::Vacant => Ok(0),
-            Seat::Open(walk) => Ok(walk.searches),
-        }
+        self.admit(seat, SEATS)?;
+        Ok(self.seats[seat].map_or(0, |walk| walk.searches))
     }
 
     // The key of a row of a side's chain.
@@ -105,23 +100,16 @@ impl<S: Store> Card<S> {
         requires { side < 3 }
         ensures { result ≡ key_at self.now.rows.items (side * 1024 + row) }
     {
-        match self.rows.get(side * CHAIN_ROWS + row as usize) {
-            Some(row) => row.key,
-            None => 0,
-        }
+        self.rows
+            .get(side * CHAIN_ROWS + row as usize)
+            .map_or(0, |row| row.key)
     }
 
     // Erases the last row of a side set aside; with none left the side is free.
     pub fn clear(&mut self, side: usize) -> Result<(), Refusal>
-        ensures call { OneCall S.Store.contents S.Store.sound self.old (cleared side result) self.new }
-        ensures frame { S.Store.frame self.new.store ≡ S.Store.frame self.old.store }
+        ensures call { OneCall S.Store.contents S.Store.frame self.old (cleared side result) self.new }
     {
-        if !self.usable {
-            return Err(Refusal::StoreNotEmpty);
-        }
-        if side >= SIDES {
-            return Err(Refusal::OutOfRange);
-        }
+        self.admit(side, SIDES)?;
         let x = self.sides[side];
         let Some(state) = next_state(x.state, clearing_change(x.held)) else {
             return Err(Refusal::NotSetAside);
@@ -138,18 +126,11 @@ impl<S: Store> Card<S> {
 
     // Takes a free seat for a header, on the side in force.
     pub fn look_up(&mut self, seat: usize, header: Header) -> Result<LookupTicket, Refusal>
-        ensures call { (i : ℕ) → OneCall S.Store.contents S.Store.sound self.old (looked_up seat header i result) self.new }
+        ensures call { (i : ℕ) → OneCall S.Store.contents S.Store.frame self.old (looked_up seat header i result) self.new }
         ensures ticket { IfOk result (λ t. t ≡ record { card = self.old.number; seat = seat }) }
-        ensures frame { S.Store.frame self.new.store ≡ S.Store.frame self.old.store }
     {
-        if !self.usable {
-            return Err(Refusal::StoreNotEmpty);
-        }
-        if seat >= SEATS {
-            return Err(Refusal::OutOfRange);
-        }
-        let place = self.seats[seat];
-        if let Seat::Open(_) = place {
+        self.admit(seat, SEATS)?;
+        if self.seats[seat].is_some() {
             return Err(Refusal::NotFree);
         }
         let Some(side) = self.current else {
@@ -158,7 +139,7 @@ impl<S: Store> Card<S> {
         if !header.fits() {
             return Err(Refusal::HeaderTooWide);
         }
-        self.seats[seat] = Seat::Open(Walk {
+        self.seats[seat] = Some(Walk {
             side,
             header,
             searches: 0,

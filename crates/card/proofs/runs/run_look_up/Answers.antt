@@ -4,7 +4,7 @@ use Rattle.card.proofs.runs.run_look_up.Goals as goal
 pub returns-in-Ok : goal.returns-in-Ok
 returns-in-Ok g c =
     let ticket = c.in-Ok.ensures.ticket in
-    record { one = c.in-Ok.ensures.call c.args.place; call = refl; filed = cc (c.put.ensures, ticket); frame = c.look_up.ensures.frame }
+    record { one = c.in-Ok.ensures.call c.args.place; call = refl; filed = cc (c.put.ensures, ticket) }
 
 pub returns-in-Err : goal.returns-in-Err
-returns-in-Err g c = record { one = c.in-Err.ensures.call c.args.place; call = refl; filed = refl; frame = c.look_up.ensures.frame }
+returns-in-Err g c = record { one = c.in-Err.ensures.call c.args.place; call = refl; filed = refl }

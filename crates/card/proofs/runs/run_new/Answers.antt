@@ -6,15 +6,16 @@ pub returns : goal.returns
 returns g c =
     let built = c.in_ok-card.ensures in
     let went = c.in_ok-log.ensures.went in
-    let start = λ (o : g.S.Store.sound c.args.store). begins g.S.Store.contents g.S.Store.sound c.args.number c.args.store c.in_ok-card.card built o (g.S.Store.lawful c.args.store o) in
+    let S = g.S.Store in
+    let start = begins S.contents c.args.number c.args.store c.in_ok-card.card built (S.lawful c.args.store) in
     record {
       ran = record {
         repeats = went.repeats;
         new = c.in_ok-card.card;
         built = built;
-        passes = λ o. went.passes (g.S.Store.contents c.args.store) [] (start o);
-        law = λ o. (went.follows (g.S.Store.contents c.args.store) [] (start o)).law;
+        passes = went.passes (S.contents c.args.store) [] start;
+        law = (went.follows (S.contents c.args.store) [] start).law;
+        framed = went.framed ∙ ap S.frame built.on;
       };
       tickets = search rules;
-      frame = c.run.ensures.frame ∙ ap g.S.Store.frame built.on;
     }

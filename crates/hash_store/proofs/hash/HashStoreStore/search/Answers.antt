@@ -1,54 +1,41 @@
-use Rattle.std.proofs.Common.{min, length, sym, refl, arith}
-use Rattle.hash_store.specs.Cells.{cell_at}
-use Rattle.hash_store.proofs.Probes.{find_somewhere, miss_free, miss_round}
+use Rattle.std.proofs.Common.{sym, refl, arith, ◌≡◌, Option, Some, ℕ, rules, ◌∙◌}
+use Rattle.hash_store.specs.Cells.{cell_at, row_of}
+use Rattle.hash_store.specs.Hashes.{usable_cells}
+use Rattle.hash_store.proofs.Probes.{find_somewhere, miss_free, miss_round, some_row}
 use Rattle.hash_store.proofs.hash.HashStoreStore.search.Goals as goal
 
-pub returns-in-Found : goal.returns-in-Found
-returns-in-Found c =
-    let cs = c.args.self.now.cells.now in
-    let s = c.in-Found.ensures in
+pub returns-in-Found-clause-searched : goal.returns-in-Found-clause-searched
+returns-in-Found-clause-searched c =
+    let s = c.args.self.now in
+    let f = cell_at s.cells.now in
+    let i = c.in-Found.i in
+    let w = c.in-Found.ensures in
+    let row = some_row (f i) w.1 in
+    let r : ◌≡◌ {A = Option ℕ} c.map.result (Some (row_of (f i)).result) = search rules in
     record {
-      sound = λ k. record { cells = k.cells; counts = omega arith };
-      searched =
-          λ k.
-          record {
-            answer = sym (find_somewhere (cell_at cs) (min (length cs) 4096) c.args.key c.in-Found.i k.cells.apart s.0 s.1 s.2);
-            rows = refl;
-            capacity = refl;
-            tally = omega arith;
-          };
-      frame = refl;
+      answer = r ∙ sym (find_somewhere f (usable_cells s) c.args.key i s.in_order.apart w.0 w.1 w.2);
+      rows = refl;
+      capacity = refl;
+      tally = omega arith;
     }
 
-pub returns-in-Free : goal.returns-in-Free
-returns-in-Free c =
-    let cs = c.args.self.now.cells.now in
-    let s = c.in-Free.ensures in
+pub returns-in-Free-clause-searched : goal.returns-in-Free-clause-searched
+returns-in-Free-clause-searched c =
+    let s = c.args.self.now in
+    let w = c.in-Free.ensures in
     record {
-      sound = λ k. record { cells = k.cells; counts = omega arith };
-      searched =
-          λ k.
-          record {
-            answer = sym (miss_free (cell_at cs) (min (length cs) 4096) c.args.key s (k.cells.reach _ s.3 s.4));
-            rows = refl;
-            capacity = refl;
-            tally = omega arith;
-          };
-      frame = refl;
+      answer = sym (miss_free (cell_at s.cells.now) (usable_cells s) c.args.key w (s.in_order.reach _ w.3 w.4));
+      rows = refl;
+      capacity = refl;
+      tally = omega arith;
     }
 
-pub returns-in-Nowhere : goal.returns-in-Nowhere
-returns-in-Nowhere c =
-    let cs = c.args.self.now.cells.now in
+pub returns-in-Nowhere-clause-searched : goal.returns-in-Nowhere-clause-searched
+returns-in-Nowhere-clause-searched c =
+    let s = c.args.self.now in
     record {
-      sound = λ k. record { cells = k.cells; counts = omega arith };
-      searched =
-          λ k.
-          record {
-            answer = sym (miss_round (cell_at cs) (min (length cs) 4096) c.args.key c.in-Nowhere.ensures);
-            rows = refl;
-            capacity = refl;
-            tally = omega arith;
-          };
-      frame = refl;
+      answer = sym (miss_round (cell_at s.cells.now) (usable_cells s) c.args.key c.in-Nowhere.ensures);
+      rows = refl;
+      capacity = refl;
+      tally = omega arith;
     }

@@ -1,54 +1,48 @@
-use Rattle.std.proofs.Common.{◌≡◌, ℕ, ◌-◌, ◌<◌, ◌≤◌, min, cond, eqb, length, get_or, take, None, sym, refl, ap, subst, inl, inr, arith}
+use Rattle.std.proofs.Common.{◌-◌, ◌≤◌, min, length, get_or, refl, ap, inl, inr, arith}
 use Rattle.std.proofs.lemmas.List.{length-set, length-take-le, drop-set-lt}
-use Rattle.store.specs.Rows.{find, blank, NoTwice}
+use Rattle.store.specs.Rows.{blank}
 use Rattle.store.specs.Finds.{found_some}
-use Rattle.store.specs.Flats.{InOrder}
-use Rattle.store.proofs.Fronts.{hit, miss, swapped, left_long, erase_apart, erase_finds}
+use Rattle.store.proofs.Fronts.{hit, miss, fewer_apart, left_long, erase_apart, erase_finds}
 use Rattle.store.proofs.flat.FlatStoreStore.erase.Goals as goal
 
-pub returns-in_default : goal.returns-in_default
-returns-in_default c =
-    let cs = c.args.self.now.cells.now in
-    let n = c.args.self.now.count in
-    let m = c.in_default.ensures in
-    record {
-      sound = λ k. k;
-      erased =
-          λ k.
-          let h = miss cs n (omega (arith, k.fits)) c.args.key (λ j l. m j (omega (arith, k.fits))) in
-          record { asked = inr ((λ held. held h), refl); effect = refl };
-      frame = refl;
-    }
+pub returns-in_default-clause-erased : goal.returns-in_default-clause-erased
+returns-in_default-clause-erased c =
+    let s = c.args.self.now in
+    let h = miss s.cells.now s.count (omega (arith, s.fits)) c.args.key c.in_default.ensures in
+    record { asked = inr ((λ held. held h), refl); effect = refl }
 
-pub returns : goal.returns
-returns c =
-    let cs = c.args.self.now.cells.now in
-    let n = c.args.self.now.count in
-    let m = c.filled-last.result in
-    let q = c.args.key in
+pub invariant_of-self : goal.invariant_of-self
+invariant_of-self c =
+    let s = c.args.self.now in
+    record { fits = omega (arith, s.fits); apart = fewer_apart s.cells.now s.count (omega (arith, s.fits)) s.apart (s.count - 1) (omega arith); counts = s.counts }
+
+pub invariant_of-self-2 : goal.invariant_of-self-2
+invariant_of-self-2 c =
+    let s = c.args.self.now in
+    let fits : s.count ≤ length s.cells.now = omega (arith, s.fits) in
+    record { fits = simp length-set (omega (arith, s.fits)); apart = erase_apart s.cells.now s.count fits s.apart c.in-Some.i c.in-Some.ensures.within; counts = s.counts }
+
+pub returns-clause-erased : goal.returns-clause-erased
+returns-clause-erased c =
+    let s = c.args.self.now in
+    let cs = s.cells.now in
     let i = c.in-Some.i in
     let p = c.in-Some.ensures in
-    let row = get_or cs (m - 1) blank in
-    let lt : i < m = omega (arith, p.within) in
-    let all : InOrder c.args.self.now → n ≡ m = λ k. omega (arith, k.fits) in
-    let le : m ≤ length cs = omega arith in
-    let Apart : ℕ → Type 0 = λ j. NoTwice (take j cs) in
-    let apart : InOrder c.args.self.now → NoTwice (take m cs) = λ k. subst Apart (all k) k.apart in
-    let Finds : ℕ → Type 0 = λ j. (q' : ℕ) → find (swapped cs m i) q' ≡ cond (eqb q' q) None (find (take j cs) q') in
+    let fits : s.count ≤ length cs = omega (arith, s.fits) in
+    let h = hit cs s.count fits c.args.key i p.within p.has p.before in
     record {
-      sound = λ k. record { fits = simp length-set (omega (arith, k.fits)); apart = erase_apart cs m le (apart k) i lt; counts = k.counts };
-      erased =
-          λ k.
-          let h = hit cs n (omega (arith, k.fits)) q i (omega (arith, all k)) p.has p.before in
+      asked = inl (found_some _ _ h, refl);
+      effect =
           record {
-            asked = inl (found_some _ _ h, refl);
-            effect =
-                record {
-                  finds = subst Finds (sym (all k)) (erase_finds cs m le (apart k) i lt q p.has);
-                  held = omega (arith, all k, left_long cs m le (apart k) i lt, length-take-le n cs (omega (arith, k.fits)));
-                  capacity = ap (λ j. min j 4096) (length-set cs i row);
-                  tally = refl;
-                };
+            finds = erase_finds cs s.count fits s.apart i p.within c.args.key p.has;
+            held = omega (arith, p.within, left_long cs s.count fits s.apart i p.within, length-take-le s.count cs fits);
+            capacity = ap (λ j. min j 4096) (length-set cs i (get_or cs (s.count - 1) blank));
+            tally = refl;
           };
-      frame = ap (λ ds. (c.args.self.now.cells.ghost_name, ds)) (drop-set-lt 4096 cs i row (omega arith));
     }
+
+pub returns-clause-frame : goal.returns-clause-frame
+returns-clause-frame c =
+    let s = c.args.self.now in
+    let cs = s.cells.now in
+    ap (λ ds. (s.cells.ghost_name, ds)) (drop-set-lt 4096 cs c.in-Some.i (get_or cs (s.count - 1) blank) (omega (arith, c.in-Some.ensures.within, s.fits)))

@@ -1,21 +1,6 @@
-// A cell of a hash store, and where the search for a key begins.
+// Where the search for a key begins.
 ghost use Rattle.std.specs.Prelude.{◌≡◌, ◌<◌, ◌≤◌};
 ghost use Rattle.hash_store.specs.Cells.{mixed, home_of};
-
-#[derive(Clone, Copy)]
-pub struct Cell {
-    pub key: u64,
-    pub result: u16,
-    // whether the cell holds a row
-    pub used: bool,
-}
-
-// A cell that holds no row.
-pub const FREE: Cell = Cell {
-    key: 0,
-    result: 0,
-    used: false,
-};
 
 // Spreads every bit of the key over all bits.
 fn mix(key: u64) -> u64
@@ -28,7 +13,8 @@ fn mix(key: u64) -> u64
 
 // The cell among m where the search for the key begins.
 pub(crate) fn home(key: u64, m: usize) -> usize
-    requires { (0 < m) × (m ≤ 4096) }
+    requires some { 0 < m }
+    requires most { m ≤ 4096 }
     ensures home { result ≡ home_of key m }
     ensures below { result < m }
 {
