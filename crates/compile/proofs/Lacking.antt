@@ -59,7 +59,7 @@ never_last rules live field t o f e n s H q =
 
 module _ (rules : List Rule) (live field low top : ℕ) (t : Option ℕ) (piece : Piece) (lf : field < 5) (et : top + 1 ≡ 2 ^ get_or widths field 0) (C : Cut rules live field low top piece)
     (N : NoneBelow rules live field t low) where
-  pub none_more : NeverLive rules piece.live (field + 1) t → NoneBelow rules live field t (piece.end + 1)
+  pub none_more : NeverLive rules piece.live.bits (field + 1) t → NoneBelow rules live field t (piece.end + 1)
   none_more V y h l H e =
       ⊎_elim
       (λ (m : y < low). N y h m H e)
@@ -67,7 +67,7 @@ module _ (rules : List Rule) (live field low top : ℕ) (t : Option ℕ) (piece 
       V h (rw f H) (rw f (sym (C.alike y m (omega arith) h H) ∙ e)))
       (cases_lt y low)
 
-  longer : (s : List ℕ) → LeastLive rules piece.live (suc field) t s → LeastLive rules live field t (low ∷ s)
+  longer : (s : List ℕ) → LeastLive rules piece.live.bits (suc field) t s → LeastLive rules live field t (low ∷ s)
   longer s L = record {
     fits = header_cons widths field low s lf (omega (arith, C.ahead, C.within)) L.fits;
     met = C.alike low (omega arith) C.ahead s L.fits ∙ L.met;
@@ -81,10 +81,10 @@ module _ (rules : List Rule) (live field low top : ℕ) (t : Option ℕ) (piece 
         b2);
   }
 
-  pub found : (g : List ℕ) → length g ≡ 5 → LeastLive rules piece.live (field + 1) t (drop (field + 1) g) → LeastLive rules live field t (drop field (set g field low))
+  pub found : (g : List ℕ) → length g ≡ 5 → LeastLive rules piece.live.bits (field + 1) t (drop (field + 1) g) → LeastLive rules live field t (drop field (set g field low))
   found g lg L =
       let f : field + 1 ≡ suc field = omega arith in
-      let P : ℕ → Type 0 = λ n. LeastLive rules piece.live n t (drop (field + 1) g) in
+      let P : ℕ → Type 0 = λ n. LeastLive rules piece.live.bits n t (drop (field + 1) g) in
       let Q : List ℕ → Type 0 = λ r. LeastLive rules live field t r in
       subst Q (sym (drop-set g field low (omega arith))) (longer (drop (field + 1) g) (subst P f L))
 
@@ -93,12 +93,12 @@ none_all rules live field low t lf l N s H e =
     let u = header_step widths field s lf H in
     N u.0 u.1 (omega (arith, u.3)) u.4 (ap (λ (r : List ℕ). first_live_rule rules live field r) (sym u.2) ∙ e)
 
-pub excludes_more : (rules : List Rule) (t : Option ℕ) (known later : List (Option Known)) (i level live : ℕ) → later ≡ set known i (Some (record { level = level; live = live; node = 0 }))
-    → NeverLive rules live level t → Excludes rules t known → Excludes rules t later
-excludes_more rules t known later i level live e V X =
+pub excludes_more : (rules : List Rule) (t : Option ℕ) (known later : List (Option Known)) (i : ℕ) (new : Known) → later ≡ set known i (Some new)
+    → NeverLive rules new.rest.live.bits new.rest.field t → Excludes rules t known → Excludes rules t later
+excludes_more rules t known later i new e V X =
     subst (λ (ks : List (Option Known)). Excludes rules t ks) (sym e) (λ z held.
-    elim (held_set known i (record { level = level; live = live; node = 0 }) z held) [
-      | inl q ↦ subst (λ (y : Known). NeverLive rules y.live y.level t) (sym q) V
+    elim (held_set known i new z held) [
+      | inl q ↦ subst (λ (y : Known). NeverLive rules y.rest.live.bits y.rest.field t) (sym q) V
       | inr h ↦ X z h
     ])
 

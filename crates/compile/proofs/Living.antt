@@ -14,7 +14,8 @@ use Rattle.diagram.specs.Diagrams.{Header}
 use Rattle.diagram.specs.Masks.{bit, With}
 use Rattle.diagram.proofs.Steady.{header_step}
 use Rattle.compile.specs.declared.lives.Piece.{Piece}
-use Rattle.compile.specs.Lives.{or_here, first_where, takes, code_at, Live, Whole, Covers, Covering, Widened, Cut, Narrowed, Looked}
+use Rattle.compile.specs.declared.sets.BitSet.{BitSet}
+use Rattle.compile.specs.Lives.{no_rule, or_here, first_where, takes, code_at, Live, Whole, Covers, Covering, Widened, Cut, Narrowed, Looked}
 
 -- tests that agree below n find the same place
 pub where_same : (p q : ℕ → Bool) (n : ℕ) → ((j : ℕ) → j < n → p j ≡ q j) → first_where p n ≡ first_where q n
@@ -61,7 +62,7 @@ and_assoc false b c = refl
 
 module _ (rules : List Rule) (live field low : ℕ) where
   -- at the start no rule was looked at
-  pub looked_none : (end : ℕ) → ((j : ℕ) → bit 0 j ≡ false) → Looked rules live field low 0 (record { end = end; live = 0 })
+  pub looked_none : (end : ℕ) → ((j : ℕ) → bit 0 j ≡ false) → Looked rules live field low 0 (record { end = end; live = record { bits = 0 } })
   looked_none end z = record { kept = λ j l. absurd (omega arith); left = λ j l. z j }
 
   pub looked_more : (n : ℕ) (before after : Piece) → Looked rules live field low n before → Narrowed (rule_at rules n) n live field low before after
@@ -69,14 +70,14 @@ module _ (rules : List Rule) (live field low : ℕ) where
   looked_more n before after L N = record {
     kept = λ j l y a b.
         (⊎_elim
-        (λ (e : j ≡ n). let P : ℕ → Type 0 = λ k. bit after.live k ≡ (bit live k && admits (rule_at rules k) field y) in subst P (sym e) (N.here y a b))
+        (λ (e : j ≡ n). let P : ℕ → Type 0 = λ k. bit after.live.bits k ≡ (bit live k && admits (rule_at rules k) field y) in subst P (sym e) (N.here y a b))
         (λ (e : j ≡ n → ⊥). N.others j e ∙ L.kept j (omega arith) y a (omega (arith, N.within)))
         (cases_eq j n));
     left = λ j l. N.others j (omega arith) ∙ L.left j (omega arith);
   }
 
   alike : (n : ℕ) (piece : Piece) → Looked rules live field low n piece → (y : ℕ) → low ≤ y → y ≤ piece.end → (h : List ℕ) (j : ℕ) → j < n
-      → takes rules live field (y ∷ h) j ≡ takes rules piece.live (suc field) h j
+      → takes rules live field (y ∷ h) j ≡ takes rules piece.live.bits (suc field) h j
   alike n piece L y a b h j l =
       and_assoc (bit live j) (admits (rule_at rules j) field y) (meets_from (rule_at rules j) (suc field) h)
       ∙ ap (λ c. c && meets_from (rule_at rules j) (suc field) h) (sym (L.kept j l y a b))
@@ -89,15 +90,15 @@ module _ (rules : List Rule) (live field low : ℕ) where
   }
 
   pub cut_whole : (top n whole : ℕ) (piece : Piece) → low ≤ piece.end → piece.end ≤ top → n < length rules → Whole rules (field + 1) whole
-      → bit piece.live n ≡ true → bit whole n ≡ true → Looked rules live field low (n + 1) piece → Cut rules live field low top piece
+      → bit piece.live.bits n ≡ true → bit whole n ≡ true → Looked rules live field low (n + 1) piece → Cut rules live field low top piece
   cut_whole top n whole piece a w l W k b L = record {
     ahead = a;
     within = w;
     alike = λ y ly my h c.
         (let f : field + 1 ≡ suc field = omega arith in
         let m : meets_from (rule_at rules n) (suc field) h ≡ true = rw f at (W n l b h (rw f c)) in
-        let t : takes rules piece.live (suc field) h n ≡ true = and_from (bit piece.live n) (meets_from (rule_at rules n) (suc field) h) k m in
-        where_until (takes rules live field (y ∷ h)) (takes rules piece.live (suc field) h) (length rules) n
+        let t : takes rules piece.live.bits (suc field) h n ≡ true = and_from (bit piece.live.bits n) (meets_from (rule_at rules n) (suc field) h) k m in
+        where_until (takes rules live field (y ∷ h)) (takes rules piece.live.bits (suc field) h) (length rules) n
         (λ j lj. alike (n + 1) piece L y ly my h j (omega arith)) (alike (n + 1) piece L y ly my h n (omega arith) ∙ t) t l);
   }
 
@@ -114,11 +115,11 @@ lies_above r x a = and_right _ _ (lt-leb x r.high a)
 abbrev pub no_range : Range
 no_range = record { low = 0; high = 0 }
 
-module _ (rule : Rule) (i live field low : ℕ) (piece : Piece) (lf : field < length rule.ranges) (ahead : low ≤ piece.end) (none : bit piece.live i ≡ false) where
+module _ (rule : Rule) (i live field low : ℕ) (piece : Piece) (lf : field < length rule.ranges) (ahead : low ≤ piece.end) (none : bit piece.live.bits i ≡ false) where
   admitted : (y : ℕ) (b : Bool) → lies (get_or rule.ranges field no_range) y ≡ b → admits rule field y ≡ b
   admitted y b e = lies_there rule.ranges field y no_range lf ∙ e
 
-  refused : (y : ℕ) → lies (get_or rule.ranges field no_range) y ≡ false → bit piece.live i ≡ (bit live i && admits rule field y)
+  refused : (y : ℕ) → lies (get_or rule.ranges field no_range) y ≡ false → bit piece.live.bits i ≡ (bit live i && admits rule field y)
   refused y e = none ∙ sym (and_right (bit live i) (admits rule field y) (admitted y false e))
 
   pub narrow_above : (get_or rule.ranges field no_range).high < low → Narrowed rule i live field low piece piece
@@ -138,16 +139,16 @@ module _ (rule : Rule) (i live field low : ℕ) (piece : Piece) (lf : field < le
     others = λ j n. refl;
   }
 
-  pub narrow_in : (end more : ℕ) → true ≡ bit live i → low ≤ (get_or rule.ranges field no_range).high → (get_or rule.ranges field no_range).low ≤ low
-      → end ≡ min piece.end (get_or rule.ranges field no_range).high → With piece.live i more
+  pub narrow_in : (end : ℕ) (more : BitSet) → true ≡ bit live i → low ≤ (get_or rule.ranges field no_range).high → (get_or rule.ranges field no_range).low ≤ low
+      → end ≡ min piece.end (get_or rule.ranges field no_range).high → With piece.live.bits i more.bits
       → Narrowed rule i live field low piece (record { end = end; live = more })
   narrow_in end more b h l e w = record {
     ahead = omega arith;
     within = omega arith;
     here = λ y ly my.
-        (w i ∙ ap (λ c. c || bit piece.live i) (eq-eqb i i refl)
+        (w i ∙ ap (λ c. c || bit piece.live.bits i) (eq-eqb i i refl)
         ∙ sym (and_from (bit live i) (admits rule field y) (sym b) (admitted y true (lies_in (get_or rule.ranges field no_range) y (omega arith) (omega arith)))));
-    others = λ j n. w j ∙ ap (λ c. c || bit piece.live j) (ne_eqb i j (λ s. n (sym s)));
+    others = λ j n. w j ∙ ap (λ c. c || bit piece.live.bits j) (ne_eqb i j (λ s. n (sym s)));
   }
 
 pub zero_bit : (j : ℕ) → bit 0 j ≡ false
@@ -222,13 +223,13 @@ whole_none rules f mask l m i li b h H =
         empty [] H = refl
         empty (x ∷ h) H = absurd H.0
 
-pub whole_set : (rules : List Rule) (masks : List ℕ) (field mask : ℕ) → field < length masks → Whole rules field mask
-    → ((f : ℕ) → field + 1 ≤ f → f ≤ 5 → Whole rules f (get_or masks f 0)) → (f : ℕ) → field ≤ f → f ≤ 5 → Whole rules f (get_or (set masks field mask) f 0)
-whole_set rules masks field mask l W old f a b =
+pub whole_set : (rules : List Rule) (sets : List BitSet) (field : ℕ) (new : BitSet) → field < length sets → Whole rules field new.bits
+    → ((f : ℕ) → field + 1 ≤ f → f ≤ 5 → Whole rules f (get_or sets f no_rule).bits) → (f : ℕ) → field ≤ f → f ≤ 5 → Whole rules f (get_or (set sets field new) f no_rule).bits
+whole_set rules sets field new l W old f a b =
     ⊎_elim
-    (λ (e : f ≡ field). let P : ℕ → Type 0 = λ n. Whole rules n (get_or (set masks field mask) n 0) in
-    subst P (sym e) (subst (λ m. Whole rules field m) (sym (get_or-set_same masks field mask 0 l)) W))
-    (λ (e : f ≡ field → ⊥). subst (λ m. Whole rules f m) (sym (get_or-set_other masks field f mask 0 e)) (old f (omega arith) b))
+    (λ (e : f ≡ field). let P : ℕ → Type 0 = λ n. Whole rules n (get_or (set sets field new) n no_rule).bits in
+    subst P (sym e) (subst (λ (z : BitSet). Whole rules field z.bits) (sym (get_or-set_same sets field new no_rule l)) W))
+    (λ (e : f ≡ field → ⊥). subst (λ (z : BitSet). Whole rules f z.bits) (sym (get_or-set_other sets field f new no_rule e)) (old f (omega arith) b))
     (cases_eq f field)
 
 -- at the start all rules are live

@@ -18,6 +18,7 @@ use Rattle.diagram.proofs.Building.{begin, leaf_built, share_built, append_built
 use Rattle.compile.specs.declared.levels.Level.{Level}
 use Rattle.compile.specs.Levels.{nodes_of, diagram_of, AllBare, Shared, Refused}
 use Rattle.compile.specs.declared.lives.Piece.{Piece}
+use Rattle.compile.specs.declared.lives.Rest.{Rest}
 use Rattle.compile.specs.declared.caches.Known.{Known}
 use Rattle.compile.specs.Lives.{Live, Cut, first_live_rule, code_at}
 use Rattle.compile.specs.Builds.{Ready, Finished, Remembers, Holds, Leads}
@@ -47,16 +48,16 @@ turn_start rules header live field Ls ms R =
 module _ (rules : List Rule) (p : List ℕ) (live low top : ℕ) (piece : Piece) (lp : length p < 5) (et : top + 1 ≡ 2 ^ get_or widths (length p) 0)
     (A : Live rules p live) (C : Cut rules live (length p) low top piece) where
   met : (y : ℕ) → low ≤ y → y ≤ piece.end → (h : List ℕ) → Header (drop (suc (length p)) widths) h
-      → first rules (p ++ y ∷ h) ≡ first_live_rule rules piece.live (suc (length p)) h
+      → first rules (p ++ y ∷ h) ≡ first_live_rule rules piece.live.bits (suc (length p)) h
   met y l m h c = A (y ∷ h) (header_cons widths (length p) y h lp (omega (arith, C.within)) c) ∙ C.alike y l m h c
 
-  pub live_more : Live rules (p ++ low ∷ []) piece.live
+  pub live_more : Live rules (p ++ low ∷ []) piece.live.bits
   live_more h c =
       let e : length (p ++ low ∷ []) ≡ suc (length p) = length-append p (low ∷ []) ∙ (omega arith) in
       let P : ℕ → Type 0 = λ n. Header (drop n widths) h in
       ap (first rules) (append_assoc p (low ∷ []) h)
       ∙ met low (omega arith) C.ahead h (subst P e c)
-      ∙ ap (λ n. first_live_rule rules piece.live n h) (sym e)
+      ∙ ap (λ n. first_live_rule rules piece.live.bits n h) (sym e)
 
   pub run_alike : (y : ℕ) → low ≤ y → y ≤ piece.end → (h : List ℕ) → Header (drop (suc (length p)) widths) h → decide rules (p ++ y ∷ h) ≡ decide rules (p ++ low ∷ h)
   run_alike y l m h c =
@@ -82,13 +83,13 @@ module _ (rules : List Rule) (header : List ℕ) (live field : ℕ) (Ks : List L
   top_is : top + 1 ≡ 2 ^ get_or widths (length (take field header)) 0
   top_is = et ∙ ap (λ n. 2 ^ get_or widths n 0) (sym lp)
 
-  pub turn_ready : Ready rules (set header field low) piece.live (field + 1) Ms ms
+  pub turn_ready : Ready rules (set header field low) piece.live.bits (field + 1) Ms ms
   turn_ready =
       record {
         most = omega arith;
         size = length-set header field low ∙ R.size;
         begins = subst (λ (q : List ℕ). Begins widths q) (sym longer) (begins_more widths (take field header) low R.begins (omega (arith, lp)) lw);
-        alive = subst (λ (q : List ℕ). Live rules q piece.live) (sym longer) (live_more rules (take field header) live low top piece (omega (arith, lp)) top_is R.alive cut);
+        alive = subst (λ (q : List ℕ). Live rules q piece.live.bits) (sym longer) (live_more rules (take field header) live low top piece (omega (arith, lp)) top_is R.alive cut);
         state = subst (λ (p : List ℕ). State widths (decide rules) (diagram_of Ms) (λ q. Before q p)) (sym longer) Tn.state;
         memory = Tn.memory;
       }
@@ -116,8 +117,8 @@ module _ (rules : List Rule) (header : List ℕ) (live field : ℕ) (Ks : List L
 remembers_grows : (rules : List Rule) (D E : Diagram) (ms : List (Option Known)) → Grows widths D E → Remembers rules D ms → Remembers rules E ms
 remembers_grows rules D E ms G R e h =
     let u = R e h in (
-      omega (arith, u.0, G.more e.level),
-      λ q c. u.1 q c ∙ ap (λ n. Some n) (sym (G.same e.level e.node u.0 q c.0)),
+      omega (arith, u.0, G.more e.rest.field),
+      λ q c. u.1 q c ∙ ap (λ n. Some n) (sym (G.same e.rest.field e.node u.0 q c.0)),
     )
 
 pub turn_end : (rules : List Rule) (header : List ℕ) (field : ℕ) (Ls Ms : List Level) (ms : List (Option Known)) (low : ℕ) (node : Node) (L₀ M : Level) (k : ℕ)
@@ -250,42 +251,42 @@ crowded_end rules header field Ls Ms ms low node L₀ lh lf lm b Tn lw Rf =
         inr (omega arith)
 
 -- the node is known
-pub recall_end : (rules : List Rule) (header : List ℕ) (live field : ℕ) (Ls : List Level) (ms : List (Option Known)) (k : ℕ)
-    → Ready rules header live field Ls ms → field < 5 → Holds ms (record { level = field; live = live; node = k })
-    → Finished rules header field Ls Ls ms k
-recall_end rules header live field Ls ms k R lf held =
-    let u = R.memory (record { level = field; live = live; node = k }) held in
+pub recall_end : (rules : List Rule) (header : List ℕ) (rest : Rest) (Ls : List Level) (ms : List (Option Known)) (k : ℕ)
+    → Ready rules header rest.live.bits rest.field Ls ms → rest.field < 5 → Holds ms (record { rest = rest; node = k })
+    → Finished rules header rest.field Ls Ls ms k
+recall_end rules header rest Ls ms k R lf held =
+    let u = R.memory (record { rest = rest; node = k }) held in
     record {
-      built = skip_built widths (decide rules) (diagram_of Ls) (take field header) k (omega (arith, lp)) R.state (subst (λ n. k < nodes (diagram_of Ls) n) (sym lp) u.0)
-          (λ h c. decide_first rules (take field header ++ h) ∙ ap (option_map (code_at rules)) (R.alive h c ∙ ap (λ n. first_live_rule rules live n h) lp)
+      built = skip_built widths (decide rules) (diagram_of Ls) (take rest.field header) k (omega (arith, lp)) R.state (subst (λ n. k < nodes (diagram_of Ls) n) (sym lp) u.0)
+          (λ h c. decide_first rules (take rest.field header ++ h) ∙ ap (option_map (code_at rules)) (R.alive h c ∙ ap (λ n. first_live_rule rules rest.live.bits n h) lp)
           ∙ u.1 h (subst (λ n. Header (drop n widths) h) lp c) ∙ ap (λ n. Some (walk (drop n (diagram_of Ls)) k h)) (sym lp));
       memory = R.memory;
     }
   where
-    lp : length (take field header) ≡ field
-    lp = length-take-le field header (omega (arith, R.size))
+    lp : length (take rest.field header) ≡ rest.field
+    lp = length-take-le rest.field header (omega (arith, R.size))
 
 -- and is kept
-pub remember_end : (rules : List Rule) (header : List ℕ) (live field : ℕ) (Ks : List Level) (ks : List (Option Known)) → Ready rules header live field Ks ks → field < 5
-    → (Ls Ms : List Level) (ms : List (Option Known)) (k i : ℕ) → Finished rules header field Ls Ms ms k
-    → Finished rules header field Ls Ms (set ms i (Some (record { level = field; live = live; node = k }))) k
-remember_end rules header live field Ks ks R lf Ls Ms ms k i F = record { built = F.built; memory = kept }
+pub remember_end : (rules : List Rule) (header : List ℕ) (rest : Rest) (Ks : List Level) (ks : List (Option Known)) → Ready rules header rest.live.bits rest.field Ks ks → rest.field < 5
+    → (Ls Ms : List Level) (ms : List (Option Known)) (k i : ℕ) → Finished rules header rest.field Ls Ms ms k
+    → Finished rules header rest.field Ls Ms (set ms i (Some (record { rest = rest; node = k }))) k
+remember_end rules header rest Ks ks R lf Ls Ms ms k i F = record { built = F.built; memory = kept }
   where
-    lp : length (take field header) ≡ field
-    lp = length-take-le field header (omega (arith, R.size))
+    lp : length (take rest.field header) ≡ rest.field
+    lp = length-take-le rest.field header (omega (arith, R.size))
 
-    new : Leads rules (diagram_of Ms) field live k
+    new : Leads rules (diagram_of Ms) rest.field rest.live.bits k
     new = (
       subst (λ n. k < nodes (diagram_of Ms) n) lp (F.built.there (omega (arith, lp))),
       λ h c.
-          (let d : Header (drop (length (take field header)) widths) h = subst (λ n. Header (drop n widths) h) (sym lp) c in
-          ap (option_map (code_at rules)) (ap (λ n. first_live_rule rules live n h) (sym lp) ∙ sym (R.alive h d)) ∙ sym (decide_first rules (take field header ++ h))
+          (let d : Header (drop (length (take rest.field header)) widths) h = subst (λ n. Header (drop n widths) h) (sym lp) c in
+          ap (option_map (code_at rules)) (ap (λ n. first_live_rule rules rest.live.bits n h) (sym lp) ∙ sym (R.alive h d)) ∙ sym (decide_first rules (take rest.field header ++ h))
           ∙ F.built.means h d ∙ ap (λ n. Some (walk (drop n (diagram_of Ms)) k h)) lp),
     )
 
-    kept : Remembers rules (diagram_of Ms) (set ms i (Some (record { level = field; live = live; node = k })))
-    kept e held = elim (held_set ms i (record { level = field; live = live; node = k }) e held) [
-      | inl q ↦ subst (λ (z : Known). Leads rules (diagram_of Ms) z.level z.live z.node) (sym q) new
+    kept : Remembers rules (diagram_of Ms) (set ms i (Some (record { rest = rest; node = k })))
+    kept e held = elim (held_set ms i (record { rest = rest; node = k }) e held) [
+      | inl q ↦ subst (λ (z : Known). Leads rules (diagram_of Ms) z.rest.field z.rest.live.bits z.node) (sym q) new
       | inr h ↦ F.memory e h
     ]
 

@@ -22,7 +22,7 @@ Holds known e = (i : ℕ) × (slice_index_or known i None ≡ Some e)
 
 -- What is known is so: the node of an entry decides as its live rules do.
 abbrev pub Remembers : List Rule → Diagram → List (Option Known) → Type 0
-Remembers rules D known = (e : Known) → Holds known e → Leads rules D e.level e.live e.node
+Remembers rules D known = (e : Known) → Holds known e → Leads rules D e.rest.field e.rest.live.bits e.node
 
 -- Before the node of a string is built: all strings before it are done.
 pub record Ready (rules : List Rule) (header : List ℕ) (live field : ℕ) (Ls : List Level) (known : List (Option Known)) : Type 0 where

@@ -34,4 +34,4 @@ NoneBelow rules live field t low =
 
 -- What is known is so: for the live rules of an entry there are no such numbers.
 abbrev pub Excludes : List Rule → Option ℕ → List (Option Known) → Type 0
-Excludes rules t known = (e : Known) → Holds known e → NeverLive rules e.live e.level t
+Excludes rules t known = (e : Known) → Holds known e → NeverLive rules e.rest.live.bits e.rest.field t

@@ -1,11 +1,12 @@
 -- Live rules: those that a string of values for the first fields still meets, as the bits of a number.
-use Rattle.std.specs.Prelude.{◌≡◌, ℕ, zero, suc, ◌^◌, ◌<◌, ◌≤◌, Bool, true, false, cond, ◌&&◌, ◌⊎◌, List, ◌∷◌, ◌++◌, length, drop, Some, None, Option, ◌≢◌, slice_index}
+use Rattle.std.specs.Prelude.{◌≡◌, ℕ, zero, suc, ◌^◌, ◌<◌, ◌≤◌, Bool, true, false, cond, ◌&&◌, ◌⊎◌, List, ◌∷◌, ◌++◌, length, drop, Some, None, Option, ◌≢◌, slice_index, slice_index_or}
 use Rattle.policy.specs.declared.rules.Rule.{Rule}
 use Rattle.policy.specs.Fields.{widths}
 use Rattle.policy.specs.Rules.{admits, meets_from, rule_at, first}
 use Rattle.diagram.specs.Diagrams.{Header}
 use Rattle.diagram.specs.Masks.{bit}
 use Rattle.compile.specs.declared.lives.Piece.{Piece}
+use Rattle.compile.specs.declared.sets.BitSet.{BitSet}
 
 -- An earlier place, or else the place n where the test holds there.
 abbrev pub or_here : Option ℕ → Bool → ℕ → Option ℕ
@@ -39,29 +40,33 @@ abbrev pub Whole : List Rule → ℕ → ℕ → Type 0
 Whole rules field mask =
     (i : ℕ) → i < length rules → bit mask i ≡ true → (h : List ℕ) → Header (drop field widths) h → meets_from (rule_at rules i) field h ≡ true
 
+-- The set of no rule: what a place past the end of a list of sets is read as.
+abbrev pub no_rule : BitSet
+no_rule = record { bits = 0 }
+
 -- For each field, rules that take all values of it and of all further fields.
-abbrev pub AllWhole : List Rule → List ℕ → Type 0
-AllWhole rules wholes = (f : ℕ) → f ≤ 5 → Whole rules f (slice_index wholes f)
+abbrev pub AllWhole : List Rule → List BitSet → Type 0
+AllWhole rules wholes = (f : ℕ) → f ≤ 5 → Whole rules f (slice_index_or wholes f no_rule).bits
 
 -- The values from low to the end of a piece leave the same live rules.
 pub record Cut (rules : List Rule) (live field low top : ℕ) (piece : Piece) : Type 0 where
   pub ahead : low ≤ piece.end
   pub within : piece.end ≤ top
   pub alike : (y : ℕ) → low ≤ y → y ≤ piece.end → (h : List ℕ) → Header (drop (suc field) widths) h
-      → first_live_rule rules live field (y ∷ h) ≡ first_live_rule rules piece.live (suc field) h
+      → first_live_rule rules live field (y ∷ h) ≡ first_live_rule rules piece.live.bits (suc field) h
 
 -- One rule more was looked at for the run that begins at low: it is kept exactly where it is live and
 -- takes the values of the run, which may have become shorter.
 pub record Narrowed (rule : Rule) (i live field low : ℕ) (before after : Piece) : Type 0 where
   pub ahead : low ≤ after.end
   pub within : after.end ≤ before.end
-  pub here : (y : ℕ) → low ≤ y → y ≤ after.end → bit after.live i ≡ (bit live i && admits rule field y)
-  pub others : (j : ℕ) → (j ≢ i) → bit after.live j ≡ bit before.live j
+  pub here : (y : ℕ) → low ≤ y → y ≤ after.end → bit after.live.bits i ≡ (bit live i && admits rule field y)
+  pub others : (j : ℕ) → (j ≢ i) → bit after.live.bits j ≡ bit before.live.bits j
 
 -- The rules below n were looked at.
 pub record Looked (rules : List Rule) (live field low n : ℕ) (piece : Piece) : Type 0 where
-  pub kept : (j : ℕ) → j < n → (y : ℕ) → low ≤ y → y ≤ piece.end → bit piece.live j ≡ (bit live j && admits (rule_at rules j) field y)
-  pub left : (j : ℕ) → n ≤ j → bit piece.live j ≡ false
+  pub kept : (j : ℕ) → j < n → (y : ℕ) → low ≤ y → y ≤ piece.end → bit piece.live.bits j ≡ (bit live j && admits (rule_at rules j) field y)
+  pub left : (j : ℕ) → n ≤ j → bit piece.live.bits j ≡ false
 
 -- A rule takes all values of a field.
 abbrev pub Covers : Rule → ℕ → Type 0

@@ -9,8 +9,9 @@ ghost use Rattle.compile.specs.Builds.{Ready, Finished};
 
 use crate::caches::{Known, forget, recall, remember};
 use crate::levels::{Draft, Level, add_run};
-use crate::lives::{Lives, top_of};
+use crate::lives::{Lives, Rest, top_of};
 use crate::places::clear_levels;
+use crate::sets::BitSet;
 use policy::fields::FIELDS;
 use policy::rules::Rule;
 
@@ -19,42 +20,38 @@ use policy::rules::Rule;
 fn build(
     lives: &Lives,
     header: [u32; FIELDS],
-    live: u64,
-    field: usize,
+    rest: Rest,
     levels: &mut [Level; FIELDS],
     known: &mut [Option<Known>],
 ) -> Option<u16>
-    requires { Ready lives.now.rules.now header live field levels.old known.old }
-    ensures { MatchOption result (Failed widths (decide lives.now.rules.now)) (λ k. Finished lives.now.rules.now header field levels.old levels.new known.new k) }
+    requires { Ready lives.now.rules.now header rest.live.bits rest.field levels.old known.old }
+    ensures { MatchOption result (Failed widths (decide lives.now.rules.now)) (λ k. Finished lives.now.rules.now header rest.field levels.old levels.new known.new k) }
 {
-    if field == FIELDS {
-        return lives.first_code(live);
+    if rest.field == FIELDS {
+        return lives.first_code(rest.live);
     }
-    if let Some(k) = recall(known, field, live) {
+    if let Some(k) = recall(known, rest) {
         return Some(k);
     }
-    let top = top_of(field);
+    let top = top_of(rest.field);
     let mut draft = Draft::new();
     let mut low = 0u64;
     // The step is the length of the run that was cut, so no range counts it.
     while low <= top as u64 {
         let from = low as u32;
-        let piece = lives.cut(live, field, from, top);
+        let piece = lives.cut(rest, from, top);
         let mut longer = header;
-        longer[field] = from;
-        let to = build(lives, longer, piece.live, field + 1, levels, known)?;
+        longer[rest.field] = from;
+        let next = Rest {
+            field: rest.field + 1,
+            live: piece.live,
+        };
+        let to = build(lives, longer, next, levels, known)?;
         add_run(&mut draft, piece.end, to)?;
         low = piece.end as u64 + 1;
     }
-    let node = levels[field].share(&draft)?;
-    remember(
-        known,
-        Known {
-            level: field,
-            live,
-            node,
-        },
-    );
+    let node = levels[rest.field].share(&draft)?;
+    remember(known, Known { rest, node });
     Some(node)
 }
 
@@ -71,6 +68,10 @@ pub(crate) fn reduce(
     clear_levels(levels);
     forget(known);
     let lives = Lives::new(rules);
-    build(&lives, [0; FIELDS], u64::MAX, 0, levels, known)?;
+    let all = Rest {
+        field: 0,
+        live: BitSet::FULL,
+    };
+    build(&lives, [0; FIELDS], all, levels, known)?;
     Some(())
 }

@@ -28,7 +28,7 @@ impl Level {
                 node: node as u8,
                 width: first.width,
             };
-            lengths[node] = table.node_rows(self.node(node), rows)?;
+            lengths[node] = table.node_rows(self.node(node), rows)?.bits;
         }
         Some(())
     }

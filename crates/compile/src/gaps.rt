@@ -3,7 +3,8 @@ ghost use Rattle.std.specs.Prelude.{◌≡◌, ◌<◌, ◌≤◌, length, drop,
 ghost use Rattle.compile.specs.Gaps.{LeastOfAll, Never, LeastLive, NeverLive, Excludes};
 
 use crate::caches::{Known, forget, recall, remember};
-use crate::lives::{Lives, top_of};
+use crate::lives::{Lives, Rest, top_of};
+use crate::sets::BitSet;
 use policy::fields::FIELDS;
 use policy::rules::Rule;
 
@@ -11,46 +12,42 @@ use policy::rules::Rule;
 // stand in their places of a header.
 fn least(
     lives: &Lives,
-    live: u64,
-    field: usize,
+    rest: Rest,
     target: Option<usize>,
     known: &mut [Option<Known>],
 ) -> Option<[u32; FIELDS]>
-    requires most { field ≤ 5 }
+    requires most { rest.field ≤ 5 }
     requires known { Excludes lives.now.rules.now target known.old }
-    ensures found { MatchOption result (NeverLive lives.now.rules.now live field target) (λ g. (length g ≡ 5) × LeastLive lives.now.rules.now live field target (drop field g)) }
+    ensures found { MatchOption result (NeverLive lives.now.rules.now rest.live.bits rest.field target) (λ g. (length g ≡ 5) × LeastLive lives.now.rules.now rest.live.bits rest.field target (drop rest.field g)) }
     ensures known { Excludes lives.now.rules.now target known.new }
 {
-    if field == FIELDS {
-        return if lives.first(live) == target {
+    if rest.field == FIELDS {
+        return if lives.first(rest.live) == target {
             Some([0; FIELDS])
         } else {
             None
         };
     }
-    if recall(known, field, live).is_some() || lives.shadows(live, field, target) {
+    if recall(known, rest).is_some() || lives.shadows(rest, target) {
         return None;
     }
-    let top = top_of(field);
+    let top = top_of(rest.field);
     let mut low = 0u64;
     // The step is the length of the run that was cut, so no range counts it.
     while low <= top as u64 {
         let from = low as u32;
-        let piece = lives.cut(live, field, from, top);
-        if let Some(mut found) = least(lives, piece.live, field + 1, target, known) {
-            found[field] = from;
+        let piece = lives.cut(rest, from, top);
+        let next = Rest {
+            field: rest.field + 1,
+            live: piece.live,
+        };
+        if let Some(mut found) = least(lives, next, target, known) {
+            found[rest.field] = from;
             return Some(found);
         }
         low = piece.end as u64 + 1;
     }
-    remember(
-        known,
-        Known {
-            level: field,
-            live,
-            node: 0,
-        },
-    );
+    remember(known, Known { rest, node: 0 });
     None
 }
 
@@ -66,5 +63,9 @@ pub(crate) fn least_header(
 {
     forget(known);
     let lives = Lives::new(rules);
-    least(&lives, u64::MAX, 0, target, known)
+    let all = Rest {
+        field: 0,
+        live: BitSet::FULL,
+    };
+    least(&lives, all, target, known)
 }

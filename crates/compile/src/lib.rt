@@ -12,4 +12,5 @@ pub mod lives;
 pub mod places;
 pub mod refusals;
 pub mod rows;
+pub mod sets;
 pub mod tables;

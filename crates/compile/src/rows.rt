@@ -5,7 +5,7 @@ ghost use Rattle.diagram.specs.Diagrams.{Runs};
 
 use crate::blocks::{Block, next_block};
 use crate::levels::MAX_NODES;
-use crate::lives::with_rule;
+use crate::sets::BitSet;
 use arrayvec::ArrayVec;
 use chain::probe::block_key;
 use diagram::edges::Edge;
@@ -52,9 +52,9 @@ impl Table {
 
     // Writes the rows of an edge whose first value is low, and adds their block lengths to a mask; none,
     // where there is no room.
-    fn edge_rows(&self, low: u32, edge: Edge, rows: &mut Rows, lengths: u64) -> Option<u64>
+    fn edge_rows(&self, low: u32, edge: Edge, rows: &mut Rows, lengths: BitSet) -> Option<BitSet>
         requires { edge.high < 2 ^ self.now.width }
-        ensures { MatchOption result (1024 < length rows.old.items + length (cover self.now.width low edge.high)) (λ more. Extends rows.old.items rows.new.items lengths more (rows_of self.now edge.to (cover self.now.width low edge.high)) (tiles_of edge.to (cover self.now.width low edge.high))) }
+        ensures { MatchOption result (1024 < length rows.old.items + length (cover self.now.width low edge.high)) (λ more. Extends rows.old.items rows.new.items lengths.bits more.bits (rows_of self.now edge.to (cover self.now.width low edge.high)) (tiles_of edge.to (cover self.now.width low edge.high))) }
     {
         let mut lengths = lengths;
         let mut next = low as u64;
@@ -66,18 +66,18 @@ impl Table {
                 result: edge.to,
             };
             rows.try_push(row).ok()?;
-            lengths = with_rule(lengths, block.length as usize);
+            lengths = lengths.with(block.length as usize);
             next = block.last as u64 + 1;
         }
         Some(lengths)
     }
 
     // Writes the rows of a node, and tells which block lengths occur in them; none, where there is no room.
-    pub(crate) fn node_rows(&self, edges: &[Edge], rows: &mut Rows) -> Option<u64>
+    pub(crate) fn node_rows(&self, edges: &[Edge], rows: &mut Rows) -> Option<BitSet>
         requires { Runs (2 ^ self.now.width - 1) 0 edges.now }
-        ensures { MatchOption result (1024 < length rows.old.items + length (rows_of_edge (key_in self.now) self.now.width 0 edges.now)) (λ more. Extends rows.old.items rows.new.items 0 more (rows_of_edge (key_in self.now) self.now.width 0 edges.now) (tiles_in self.now.width edges.now)) }
+        ensures { MatchOption result (1024 < length rows.old.items + length (rows_of_edge (key_in self.now) self.now.width 0 edges.now)) (λ more. Extends rows.old.items rows.new.items 0 more.bits (rows_of_edge (key_in self.now) self.now.width 0 edges.now) (tiles_in self.now.width edges.now)) }
     {
-        let mut lengths = 0;
+        let mut lengths = BitSet::EMPTY;
         let mut low = 0u64;
         for edge in edges {
             lengths = self.edge_rows(low as u32, *edge, rows, lengths)?;

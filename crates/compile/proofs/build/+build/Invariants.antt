@@ -3,11 +3,11 @@ use Rattle.compile.proofs.Turns.{Turn}
 use Rattle.compile.proofs.build.+build.Given as goal
 
 abbrev pub decreases-build : goal.decreases-build
-decreases-build l = 5 - l.field
+decreases-build l = 5 - l.rest.field
 
 abbrev pub invariant-loop-low : goal.invariant-loop-low
 invariant-loop-low l = (l.low ≤ l.top + 1)
-    × Turn l.lives.rules.now l.header l.field l.initial.levels l.levels l.known l.low l.draft.items
+    × Turn l.lives.rules.now l.header l.rest.field l.initial.levels l.levels l.known l.low l.draft.items
 
 abbrev pub decreases-loop-low : goal.decreases-loop-low
 decreases-loop-low l = l.top + 1 - l.low

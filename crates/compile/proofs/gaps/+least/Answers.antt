@@ -7,7 +7,7 @@ use Rattle.compile.proofs.gaps.+least.Goals as goal
 
 pub returns-else-eq : goal.returns-else-eq
 returns-else-eq t c = record {
-  found = never_last c.args.lives.now.rules.now c.args.live c.args.field c.args.target c.first.result c.if-field-eq-FIELDS.true c.first.ensures.value (targets_differ _ _ c.if-eq.ensures);
+  found = never_last c.args.lives.now.rules.now c.args.rest.live.bits c.args.rest.field c.args.target c.first.result c.if-rest-eq-FIELDS.true c.first.ensures.value (targets_differ _ _ c.if-eq.ensures);
   known = c.requires.known;
 }
 
@@ -16,8 +16,8 @@ returns-in-Some t c =
     let f = c.in-Some.ensures.found in
     record {
       found = (
-        length-set c.in-Some.found c.args.field c.loop-low.low ∙ f.0,
-        found c.args.lives.now.rules.now c.args.live c.args.field c.loop-low.low c.top_of-top.result c.args.target c.cut-piece.result (omega (arith, c.requires.most))
+        length-set c.in-Some.found c.args.rest.field c.loop-low.low ∙ f.0,
+        found c.args.lives.now.rules.now c.args.rest.live.bits c.args.rest.field c.loop-low.low c.top_of-top.result c.args.target c.cut-piece.result (omega (arith, c.requires.most))
             c.top_of-top.ensures c.cut-piece.ensures c.loop-low.invariant.1 c.in-Some.found f.0 f.1,
       );
       known = c.least.ensures.known;
@@ -25,10 +25,10 @@ returns-in-Some t c =
 
 pub returns : goal.returns
 returns t c =
-    let never = none_all c.args.lives.now.rules.now c.args.live c.args.field c.loop-low.low c.args.target (omega (arith, c.requires.most)) (omega (arith, c.top_of-top.ensures)) c.loop-low.invariant.1 in
+    let never = none_all c.args.lives.now.rules.now c.args.rest.live.bits c.args.rest.field c.loop-low.low c.args.target (omega (arith, c.requires.most)) (omega (arith, c.top_of-top.ensures)) c.loop-low.invariant.1 in
     record {
       found = never;
-      known = excludes_more c.args.lives.now.rules.now c.args.target c.loop-low.known c.remember.new.known c.remember.ensures.0 c.args.field c.args.live
+      known = excludes_more c.args.lives.now.rules.now c.args.target c.loop-low.known c.remember.new.known c.remember.ensures.0 (record { rest = c.args.rest; node = 0 })
           c.remember.ensures.1 never c.loop-low.invariant.2;
     }
 
@@ -37,6 +37,6 @@ returns-then-is_some-clause-found t c =
     elim c.then-is_some.branch [
       | then-is_some-via-then-is_some w ↦
           let known = some_at c.recall.result _ (sym c.is_some.ensures ∙ w.if-is_some.true) c.recall.ensures in
-          c.requires.known (record { level = c.args.field; live = c.args.live; node = known.0 }) known.1
+          c.requires.known (record { rest = c.args.rest; node = known.0 }) known.1
       | then-is_some-via-else-is_some+then-shadows w ↦ w.shadows.ensures w.if-shadows.true
     ]

@@ -6,5 +6,5 @@ use Rattle.compile.proofs.lives.whole_from.Goals as goal
 pub returns : goal.returns
 returns c =
     let e : c.loop-i.i ≡ length c.args.rules.now = omega arith in
-    whole_all c.args.rules.now c.args.field c.args.after c.loop-i.mask c.requires.field c.requires.after
-    (subst (λ n. Covering c.args.rules.now c.args.field c.args.after n c.loop-i.mask) e c.loop-i.invariant)
+    whole_all c.args.rules.now c.args.field c.args.after.bits c.loop-i.set.bits c.requires.field c.requires.after
+    (subst (λ n. Covering c.args.rules.now c.args.field c.args.after.bits n c.loop-i.set.bits) e c.loop-i.invariant)

@@ -28,11 +28,11 @@ loop-node-preserved c =
     let t = c.args.first in
     let l : c.loop-node.node < length (nodes_of c.args.self.now) = omega (arith, c.len-node-end.ensures.count) in
     let w = c.in_ok-lengths.ensures in (
-      length-set c.loop-node.lengths c.loop-node.node c.in_ok-lengths.field-0 ∙ c.loop-node.invariant.0,
+      length-set c.loop-node.lengths c.loop-node.node c.in_ok-lengths.field-0.bits ∙ c.loop-node.invariant.0,
       part_more c.args.rows.now.items c.loop-node.rows.items c.node_rows.new.rows.items _ _ _
           (level_open c.args.rows.now.items c.loop-node.rows.items t.side t.width t.level c.loop-node.node (nodes_of c.args.self.now) l c.loop-node.invariant.1)
           (subst (λ (z : Node). c.node_rows.new.rows.items ≡ c.loop-node.rows.items ++ rows_of_edge (key c.args.first.side c.args.first.level c.loop-node.node) c.args.first.width 0 z) c.node.ensures w.added),
-      measured_more c.loop-node.lengths t.width c.loop-node.node c.in_ok-lengths.field-0 (nodes_of c.args.self.now) (omega (arith, c.loop-node.invariant.0, c.len-node-end.ensures.few)) c.loop-node.invariant.2
+      measured_more c.loop-node.lengths t.width c.loop-node.node c.in_ok-lengths.field-0.bits (nodes_of c.args.self.now) (omega (arith, c.loop-node.invariant.0, c.len-node-end.ensures.few)) c.loop-node.invariant.2
           (λ n. w.lengths n ∙ ap (λ b. b || occurs (table c.args.first.width c.node.result.now) n) (zero_bit n) ∙ ap (λ (z : Node). occurs (table c.args.first.width z) n) c.node.ensures),
     )
 

@@ -3,4 +3,4 @@ use Rattle.compile.specs.Lives.{Looked}
 use Rattle.compile.proofs.lives.Lives.cut.Given as goal
 
 abbrev pub invariant-loop-i : goal.invariant-loop-i
-invariant-loop-i l = (l.low ≤ l.piece.end) × (l.piece.end ≤ l.top) × Looked l.self.rules.now l.live l.field l.low l.i l.piece
+invariant-loop-i l = (l.low ≤ l.piece.end) × (l.piece.end ≤ l.top) × Looked l.self.rules.now l.rest.live.bits l.rest.field l.low l.i l.piece

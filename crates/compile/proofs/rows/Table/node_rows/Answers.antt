@@ -28,22 +28,22 @@ edge_rows-requires c =
 pub returns-in_err-lengths : goal.returns-in_err-lengths
 returns-in_err-lengths c =
     rw c.from_residual.ensures
-    (node_full c.args.rows.now.items c.loop-edge.rows.items 0 c.loop-edge.lengths c.args.self.now c.args.self.now.width c.loop-edge.low c.loop-edge.edge-index
+    (node_full c.args.rows.now.items c.loop-edge.rows.items 0 c.loop-edge.lengths.bits c.args.self.now c.args.self.now.width c.loop-edge.low c.loop-edge.edge-index
     c.args.edges.now c.loop-edge-test.true c.loop-edge.invariant.1 c.in_err-lengths.ensures)
 
 pub loop-edge-preserved : goal.loop-edge-preserved
 loop-edge-preserved c =
     let e = edge_at c.args.self.now.width c.loop-edge.low c.loop-edge.edge-index c.args.edges.now c.loop-edge-test.true c.loop-edge.invariant.0 in (
       e.2,
-      node_more c.args.rows.now.items c.loop-edge.rows.items 0 c.loop-edge.lengths c.args.self.now c.args.self.now.width c.loop-edge.low c.loop-edge.edge-index
-          c.args.edges.now c.loop-edge-test.true c.loop-edge.invariant.1 c.edge_rows.new.rows.items c.in_ok-lengths.lengths c.in_ok-lengths.ensures,
+      node_more c.args.rows.now.items c.loop-edge.rows.items 0 c.loop-edge.lengths.bits c.args.self.now c.args.self.now.width c.loop-edge.low c.loop-edge.edge-index
+          c.args.edges.now c.loop-edge-test.true c.loop-edge.invariant.1 c.edge_rows.new.rows.items c.in_ok-lengths.lengths.bits c.in_ok-lengths.ensures,
     )
 
 pub returns : goal.returns
 returns c =
     let t = c.args.self.now in
     let d = drop_all c.loop-edge.edge-index c.args.edges.now c.loop-edge-test.false in
-    filled_all c.args.rows.now.items c.loop-edge.rows.items 0 c.loop-edge.lengths (rows_of_edge (key_in t) t.width 0 c.args.edges.now) (table t.width c.args.edges.now)
-    (subst (λ (z : Node). Filled c.args.rows.now.items c.loop-edge.rows.items 0 c.loop-edge.lengths
+    filled_all c.args.rows.now.items c.loop-edge.rows.items 0 c.loop-edge.lengths.bits (rows_of_edge (key_in t) t.width 0 c.args.edges.now) (table t.width c.args.edges.now)
+    (subst (λ (z : Node). Filled c.args.rows.now.items c.loop-edge.rows.items 0 c.loop-edge.lengths.bits
     (rows_of_edge (key_in c.args.self.now) c.args.self.now.width c.loop-edge.low z) (tiles c.args.self.now.width c.loop-edge.low z)
     (rows_of_edge (key_in c.args.self.now) c.args.self.now.width 0 c.args.edges.now) (table c.args.self.now.width c.args.edges.now)) d c.loop-edge.invariant.1)

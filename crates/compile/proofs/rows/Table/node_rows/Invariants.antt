@@ -7,5 +7,5 @@ use Rattle.compile.proofs.rows.Table.node_rows.Given as goal
 
 abbrev pub invariant-loop-edge : goal.invariant-loop-edge
 invariant-loop-edge l = From l.self.width l.low (drop l.edge-index l.edges)
-    × Filled l.initial.rows.items l.rows.items 0 l.lengths (rows_of_edge (key_in l.self) l.self.width l.low (drop l.edge-index l.edges)) (tiles l.self.width l.low (drop l.edge-index l.edges))
+    × Filled l.initial.rows.items l.rows.items 0 l.lengths.bits (rows_of_edge (key_in l.self) l.self.width l.low (drop l.edge-index l.edges)) (tiles l.self.width l.low (drop l.edge-index l.edges))
     (rows_of_edge (key_in l.self) l.self.width 0 l.edges) (table l.self.width l.edges)

@@ -3,9 +3,9 @@ use lib.Bits.{bit_or}
 use Rattle.std.proofs.lemmas.Nat.{one_shl}
 use Rattle.diagram.specs.Masks.{With}
 use Rattle.diagram.proofs.Masking.{or_bit}
-use Rattle.compile.proofs.lives.with_rule.Goals as goal
+use Rattle.compile.proofs.sets.BitSet.with.Goals as goal
 
 pub returns : goal.returns
 returns c =
-    subst (λ z. With c.args.mask c.args.rule (bit_or c.args.mask z)) (sym (one_shl c.args.rule 64 (omega arith)))
-    (or_bit c.args.mask c.args.rule)
+    subst (λ z. With c.args.self.bits c.args.n (bit_or c.args.self.bits z)) (sym (one_shl c.args.n 64 (omega arith)))
+    (or_bit c.args.self.bits c.args.n)

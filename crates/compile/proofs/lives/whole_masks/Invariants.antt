@@ -1,9 +1,0 @@
-use Rattle.std.proofs.Common.{◌≡◌, ℕ, ◌≤◌, length, get_or}
-use Rattle.compile.specs.Lives.{Whole}
-use Rattle.compile.proofs.lives.whole_masks.Given as goal
-
-abbrev pub invariant-loop-field : goal.invariant-loop-field
-invariant-loop-field l = (length l.masks ≡ 6) × (l.field ≤ 5) × ((f : ℕ) → l.field ≤ f → f ≤ 5 → Whole l.rules f (get_or l.masks f 0))
-
-abbrev pub decreases-loop-field : goal.decreases-loop-field
-decreases-loop-field l = l.field
