@@ -9,7 +9,7 @@ use Rattle.faults.specs.declared.Spot.{Spot}
 use Rattle.sheet.specs.declared.tokens.Mark.{Mark}
 use Rattle.sheet.specs.declared.tokens.Mark.TheVariants.{Dot, Slash, Dash, Star, Comma, LineFeed}
 use Rattle.sheet.specs.Tokens.{is_digit, is_letter, letters_of, token, Tok, number, word, mark, size}
-use Rattle.sheet.specs.Forms.{Want, digits, the, name, byte, same, fits, after, ended, figures, Read, got, noted, went, walk, way_at}
+use Rattle.sheet.specs.Forms.{Want, digits, the, name, byte, same, fits, after, ended, figures, Read, got, noted, went, walk}
 use Rattle.sheet.specs.Readings.{meant, ranged}
 use Rattle.sheet.proofs.Numbers.{past, token_decimal}
 use Rattle.sheet.proofs.Spellings.{spelling, Suits, In, here, there, is_the, parted, closed}
@@ -160,10 +160,6 @@ module _ (m : Mark) (s rest : List ℕ) (p : Spot) where
       walk k ways s p at ≡ got ns (at + length (spelling way ns))
   walk_finds k ways way ns at all i short suits d = finds way k short (in_closed m way ways i all) ways ns at all i suits d
 
-  pub way_finds : (way : List Want) (ns : List ℕ) (at : ℕ) → closed m way ≡ true → Suits way ns → drop at s ≡ spelling way ns ++ rest → way_at way s p at ≡ got ns (at + length (spelling way ns))
-  unfolding way_at
-  way_finds way ns at c suits d = finds way (length way) (omega arith) c (way ∷ []) ns at (and_from (closed m way) true c refl) here suits d
-
 -- Where bytes before the closing mark mean something, a reading of the field answers it.
 abbrev pub Found : {A : Type 0} → Mark → (List ℕ → Spot → ℕ → Read A) → (List ℕ → A → Type 0) → Type 0
 Found {A} m reads Means =
@@ -179,6 +175,3 @@ module _ {A : Type 0} (m : Mark) (of : List ℕ → Option A) (s text rest : Lis
 
   pub found_among : (k : ℕ) (ways : List (List Want)) → list_all (closed m) ways ≡ true → In way ways → length way ≤ k → meant of p at (walk k ways s p at) ≡ got x (at + (length text + 1))
   found_among k ways all i short = ap (meant of p at) (walk_finds m s rest p k ways way ns at all i short suits bytes) ∙ meaning
-
-  pub found_alone : closed m way ≡ true → meant of p at (way_at way s p at) ≡ got x (at + (length text + 1))
-  found_alone c = ap (meant of p at) (way_finds m s rest p way ns at c suits bytes) ∙ meaning

@@ -6,13 +6,13 @@ use Rattle.sheet.specs.declared.tokens.Mark.{Mark}
 use Rattle.sheet.specs.declared.tokens.Mark.TheVariants.{Comma, LineFeed}
 use Rattle.std.specs.List.{prefix_len}
 use Rattle.sheet.specs.Forms.{digits, byte, Read, got, fault}
-use Rattle.sheet.specs.Headers.{number_way, up_to, dotted_at, number_at, numbers_at, header_of, header_at}
+use Rattle.sheet.specs.Headers.{dotted_form, number_way, number_form, up_to, dotted_at, number_at, numbers_at, header_of, header_at}
 use Rattle.sheet.specs.Lines.{spot}
 use Rattle.sheet.specs.Readings.{address_low, dotted_of, dotted_rest}
 use Rattle.sheet.specs.Sheets.{not_feed, good}
 use Rattle.sheet.specs.Meaning.{Dotted, UpTo, HeaderLine}
-use Rattle.sheet.proofs.Finding.{Found, found_alone}
-use Rattle.sheet.proofs.Sound.{Only, Written, FieldRead, only_alone}
+use Rattle.sheet.proofs.Finding.{Found, found_among}
+use Rattle.sheet.proofs.Sound.{Only, Written, FieldRead, only_among}
 use Rattle.sheet.proofs.Spellings.{here, there, closed}
 use Rattle.sheet.proofs.LinesRead.{after_field, step, then_got, got_same}
 use Rattle.sheet.proofs.MeansRead.{LineFound, LineOnly, Taken}
@@ -34,16 +34,13 @@ in_range a b c d ha hb hc hd =
 dotted_found : Found Comma dotted_at Dotted
 dotted_found s text rest p at n D e =
     let small = D.small in
-    found_alone Comma dotted_of s text rest p at n e (digits ∷ dotted_rest Comma) (D.a ∷ D.b ∷ D.c ∷ D.d ∷ []) (omega (arith, small.0), (omega (arith, small.1), (omega (arith, small.2), (omega (arith, small.3), tt))))
+    found_among Comma dotted_of s text rest p at n e (digits ∷ dotted_rest Comma) (D.a ∷ D.b ∷ D.c ∷ D.d ∷ []) (omega (arith, small.0), (omega (arith, small.1), (omega (arith, small.2), (omega (arith, small.3), tt))))
     (sym (ap (λ (t : List ℕ). t ++ (44 ∷ [])) D.text_is ∙ apart D.a D.b D.c D.d))
-    (ap (λ (v : Bool). cond v (Some (address_low D.a D.b D.c D.d)) None) (in_range D.a D.b D.c D.d small.0 small.1 small.2 small.3) ∙ ap Some (sym D.n_is)) refl
+    (ap (λ (v : Bool). cond v (Some (address_low D.a D.b D.c D.d)) None) (in_range D.a D.b D.c D.d small.0 small.1 small.2 small.3) ∙ ap Some (sym D.n_is)) 8 dotted_form refl here (omega arith)
 
 number_found : (top : ℕ) (m : Mark) → top < 100000 → Found m (number_at top m) (UpTo top)
 number_found top m h s text rest p at n U e =
-    found_alone m (up_to top) s text rest p at n e (number_way m) (n ∷ []) (omega (arith, U.0), tt) (ap (λ (t : List ℕ). t ++ (byte m ∷ [])) (sym U.1)) (ap (λ (v : Bool). cond v (Some n) None) (le-leb n top U.0)) (mark_closes m)
-  where
-    mark_closes : (m : Mark) → closed m (number_way m) ≡ true
-    mark_closes m = eq-eqb (byte m) (byte m) refl
+    found_among m (up_to top) s text rest p at n e (number_way m) (n ∷ []) (omega (arith, U.0), tt) (ap (λ (t : List ℕ). t ++ (byte m ∷ [])) (sym U.1)) (ap (λ (v : Bool). cond v (Some n) None) (le-leb n top U.0)) 2 (number_form m) (and_from (closed m (number_way m)) true (eq-eqb (byte m) (byte m) refl) refl) here (omega arith)
 
 four_got : (a b c d n : ℕ) → dotted_of (a ∷ b ∷ c ∷ d ∷ []) ≡ Some n → ((a ≤ 255) × (b ≤ 255) × (c ≤ 255) × (d ≤ 255)) × (n ≡ address_low a b c d)
 four_got a b c d n e =
@@ -53,7 +50,7 @@ four_got a b c d n e =
     let p3 = and_parts (leb c 255) (leb d 255) p2.1 in
     ((leb-true a 255 p1.0, leb-true b 255 p2.0, leb-true c 255 p3.0, leb-true d 255 p3.1), sym q.1)
 
-dotted_written : Written Comma dotted_of Dotted ((digits ∷ dotted_rest Comma) ∷ [])
+dotted_written : Written Comma dotted_of Dotted dotted_form
 dotted_written way [] n here suits e = absurd suits
 dotted_written way (a ∷ []) n here suits e = absurd suits.1
 dotted_written way (a ∷ b ∷ []) n here suits e = absurd suits.1.1
@@ -64,19 +61,19 @@ dotted_written way (a ∷ b ∷ c ∷ d ∷ m ∷ ns) n here suits e = absurd su
 dotted_written way ns n (there i) suits e = elim i [ ]
 
 dotted_only : Only Comma dotted_at Dotted
-dotted_only s p at to n h = only_alone Comma dotted_of Dotted (digits ∷ dotted_rest Comma) dotted_written s at to n p h
+dotted_only s p at to n h = only_among Comma dotted_of Dotted dotted_form dotted_written s at to n 8 p h
 
 one_got : (top a n : ℕ) → up_to top (a ∷ []) ≡ Some n → (n ≤ top) × (a ≡ n)
 one_got top a n e = let q = tested (leb a top) a n e in (subst (λ (x : ℕ). x ≤ top) q.1 (leb-true a top q.0), q.1)
 
-number_written : (top : ℕ) (m : Mark) → Written m (up_to top) (UpTo top) (number_way m ∷ [])
+number_written : (top : ℕ) (m : Mark) → Written m (up_to top) (UpTo top) (number_form m)
 number_written top m way [] n here suits e = absurd suits
 number_written top m way (a ∷ []) n here suits e = let q = one_got top a n e in (decimal a, ((q.0, ap decimal q.1), refl))
 number_written top m way (a ∷ b ∷ ns) n here suits e = absurd suits.1
 number_written top m way ns n (there i) suits e = elim i [ ]
 
 number_only : (top : ℕ) (m : Mark) → Only m (number_at top m) (UpTo top)
-number_only top m s p at to n h = only_alone m (up_to top) (UpTo top) (number_way m) (number_written top m) s at to n p h
+number_only top m s p at to n h = only_among m (up_to top) (UpTo top) (number_form m) (number_written top m) s at to n 2 p h
 
 -- A header line is found.
 long : (x y : List ℕ) (b : ℕ) → length (x ++ (b ∷ y)) ≡ length x + (1 + length y)

@@ -12,7 +12,7 @@ use Rattle.faults.specs.declared.Spot.{Spot}
 use Rattle.std.specs.List.{prefix_len}
 use Rattle.std.proofs.lemmas.List.Folds.{length-prefix_len}
 use Rattle.sheet.specs.Tokens.{is_digit, is_letter, mark_of, as_mark, number_if_made, token, Tok, number, word, mark, size, well_made, digits_of, letters_of}
-use Rattle.sheet.specs.Forms.{Want, digits, the, name, byte, same, named, fits, figures, after, ended, Read, got, fault, noted, went, turn, walk, way_at}
+use Rattle.sheet.specs.Forms.{Want, digits, the, name, byte, same, named, fits, figures, after, ended, Read, got, fault, noted, went, turn, walk}
 use Rattle.sheet.specs.Readings.{meant, ranged}
 use Rattle.sheet.proofs.Spellings.{spelling, Suits, In, here, there}
 use Rattle.sheet.proofs.Taking.{token_number, token_word, token_other, all_digits, run_of_digits}
@@ -230,10 +230,6 @@ walk_sound zero ways s p at ns to h = absurd (cc)
 walk_sound (suc k) ways s p at ns to h =
     turn_sound p (λ vs a. walk k vs s p a) ways s at ns to (λ vs a ms. walk_sound k vs s p a ms to) (token (drop at s)) refl h
 
-pub way_sound : (way : List Want) (s : List ℕ) (p : Spot) (at : ℕ) (ns : List ℕ) (to : ℕ) → way_at way s p at ≡ got ns to → Stands (way ∷ []) s at ns to
-unfolding way_at
-way_sound way s p at ns to h = walk_sound (length way) (way ∷ []) s p at ns to h
-
 -- A field was read: these bytes, with the mark that closes them.
 pub record FieldRead {A : Type 0} (m : Mark) (means : List ℕ → A → Type 0) (s : List ℕ) (at to : ℕ) (x : A) : Type 0 where
   pub text : List ℕ
@@ -271,8 +267,3 @@ module _ {A : Type 0} (m : Mark) (of : List ℕ → Option A) (Means : List ℕ 
 
   pub only_among : (k : ℕ) (p : Spot) → meant of p at (walk k ways s p at) ≡ got x to → FieldRead m Means s at to x
   only_among k p h = let q = meant_got of p at (walk k ways s p at) x to h in field_read q.0 (walk_sound k ways s p at q.0 to q.1.0) q.1.1
-
-pub only_alone : {A : Type 0} (m : Mark) (of : List ℕ → Option A) (Means : List ℕ → A → Type 0) (way : List Want) (written : Written m of Means (way ∷ [])) (s : List ℕ) (at to : ℕ) (x : A) (p : Spot) →
-    meant of p at (way_at way s p at) ≡ got x to → FieldRead m Means s at to x
-only_alone m of Means way written s at to x p h =
-    let q = meant_got of p at (way_at way s p at) x to h in field_read m of Means (way ∷ []) written s at to x q.0 (way_sound way s p at q.0 to q.1.0) q.1.1

@@ -8,8 +8,8 @@ use Rattle.sheet.specs.declared.reader.Reader.{Reader}
 use Rattle.sheet.specs.declared.tokens.Token.{Token}
 use Rattle.sheet.specs.Calls.{seen, Took, InField}
 use Rattle.sheet.specs.Tokens.{Tok, number, token, size}
-use Rattle.sheet.specs.Forms.{Want, Read, got, fault, noted, fits, went, turn, walk, way_at, address_form, address_rest}
-use Rattle.sheet.specs.Headers.{number_way}
+use Rattle.sheet.specs.Forms.{Want, digits, Read, got, fault, noted, fits, went, turn, walk, way_at, address_form, address_rest}
+use Rattle.sheet.specs.Headers.{dotted_form, number_way}
 use Rattle.sheet.specs.Readings.{address_at, address_of, dotted_rest, meant}
 use Rattle.sheet.specs.declared.tokens.Mark.TheVariants.{Slash, Comma}
 
@@ -72,6 +72,11 @@ stops w v ws vs {was} {is} {e} a =
       spot = a.spot;
       told = way_join was.sheet.now was.spot w v ws vs was.at ∙ ap (λ (y : Read (List ℕ)). chained y (way_at (v ∷ vs) was.sheet.now was.spot)) a.told;
     }
+
+-- Four numbers with dots.
+pub dotted_read : {was is : Reader} {x : Read (List ℕ)} → InField (way_at (digits ∷ dotted_rest Comma)) was is x → InField (walk 8 dotted_form) was is x
+unfolding way_at
+dotted_read f = f
 
 -- An address that begins with a number.
 pub address_number : {was mid is : Reader} {t : Token} {ds : List ℕ} {n : ℕ} {x : Read (List ℕ)} → Took was mid (Ok t) → seen t ≡ number ds → n ≡ digits_value 10 ds → InField (way_at (dotted_rest Slash ++ number_way Comma)) mid is x →
