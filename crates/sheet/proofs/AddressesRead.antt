@@ -1,6 +1,6 @@
 -- An address as bytes, and what is read.
-use Rattle.std.proofs.Common.{◌≡◌, ℕ, ◌+◌, ◌-◌, ◌%◌, ◌^◌, ◌≤◌, Bool, true, cond, ◌&&◌, eqb, leb, List, [], ◌∷◌, ◌++◌, Some, None, codes, decimal, sym, refl, ap, ◌∙◌, inl, inr, append_assoc, arith}
-use Rattle.std.proofs.lemmas.Bool.{cases_Bool, and_parts, and_from, leb-true, le-leb, eq-eqb, eqb-true}
+use Rattle.std.proofs.Common.{◌≡◌, ℕ, ◌+◌, ◌-◌, ◌%◌, ◌^◌, ◌≤◌, Bool, true, cond, ◌&&◌, eqb, leb, List, [], ◌∷◌, ◌++◌, Some, None, codes, decimal, sym, refl, ap, ◌∙◌, append_assoc, arith}
+use Rattle.std.proofs.lemmas.Bool.{and_parts, and_from, leb-true, le-leb, eq-eqb, eqb-true}
 use Rattle.policy.specs.declared.rules.Range.{Range}
 use Rattle.sheet.specs.declared.tokens.Mark.TheVariants.{Slash, Star, Comma}
 use Rattle.sheet.specs.Forms.{Want, digits, the, address_form}
@@ -10,6 +10,7 @@ use Rattle.sheet.specs.Meaning.{Address, every, block}
 use Rattle.sheet.proofs.Finding.{Found, found_among}
 use Rattle.sheet.proofs.Sound.{Only, Written, only_among}
 use Rattle.sheet.proofs.Spellings.{here, there}
+use Rattle.sheet.proofs.Tests.{tested}
 
 abbrev range_of : ℕ → ℕ → ℕ → ℕ → ℕ → Range
 range_of a b c d n = span (address_low a b c d) (address_low a b c d + (2 ^ (32 - n) - 1))
@@ -60,13 +61,7 @@ address_found s text rest p at x (block a b c d n ha hb hc hd hn z e ex) at_text
     10 address_form refl (there here) (omega arith)
 
 block_got : (a b c d n : ℕ) (x : Range) → address_of (a ∷ b ∷ c ∷ d ∷ n ∷ []) ≡ Some x → Block a b c d n × (x ≡ range_of a b c d n)
-block_got a b c d n x e =
-    elim (cases_Bool (is_block a b c d n)) [
-      | inl w ↦
-          let f : Some (range_of a b c d n) ≡ Some x = ap (λ (v : Bool). cond v (Some (range_of a b c d n)) None) (sym w) ∙ e in
-          (block_is a b c d n w, let q : range_of a b c d n ≡ x = cc in sym q)
-      | inr w ↦ let f : None ≡ Some x = ap (λ (v : Bool). cond v (Some (range_of a b c d n)) None) (sym w) ∙ e in absurd (cc)
-    ]
+block_got a b c d n x e = let q = tested (is_block a b c d n) (range_of a b c d n) x e in (block_is a b c d n q.0, sym q.1)
 
 written : Written Comma address_of Address address_form
 written way [] x here suits e = let q : span 0 4294967295 ≡ x = cc in (codes "*", (every refl (sym q), refl))

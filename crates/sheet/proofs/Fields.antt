@@ -9,10 +9,10 @@ use Rattle.sheet.specs.declared.reader.Reader.{Reader}
 use Rattle.sheet.specs.Calls.{answer, itself, in_field, Began, InField, InLine}
 use Rattle.sheet.specs.Forms.{position, Read, got, fault}
 use Rattle.sheet.specs.Lines.{spot, and_then}
-use Rattle.sheet.specs.Readings.{ranged}
+use Rattle.sheet.specs.Readings.{meant, ranged}
 
 -- What was read of a field that was begun is what the line says there.
-whole : {A : Type 0} (says : List ℕ → Spot → ℕ → Read A) (field : ℕ) {was mid is : Reader} {x : Read A} → Began field was mid → InField says mid is x → InLine (in_field says field) was is x
+pub whole : {A : Type 0} (says : List ℕ → Spot → ℕ → Read A) (field : ℕ) {was mid is : Reader} {x : Read A} → Began field was mid → InField says mid is x → InLine (in_field says field) was is x
 whole says field {was} {mid} b f =
     record {
       sheet = f.sheet ∙ b.sheet;
@@ -23,6 +23,11 @@ whole says field {was} {mid} b f =
           ∙ ap (λ (k : ℕ). says mid.sheet.now mid.spot k) (sym b.at)
           ∙ f.told;
     }
+
+-- A field means what its numbers mean.
+pub means : {A : Type 0} (of : List ℕ → Option A) (tokens : List ℕ → Spot → ℕ → Read (List ℕ)) {was is : Reader} {x : Read (List ℕ)} → InField tokens was is x →
+    InField (λ s p at. meant of p at (tokens s p at)) was is (meant of was.spot was.at x)
+means of tokens {was} f = record { sheet = f.sheet; spot = f.spot; told = ap (meant of was.spot was.at) f.told }
 
 -- Where the numbers are out of range, the fault is at the field's first byte.
 ranged_is : {A : Type 0} (p : Spot) (from to : ℕ) (o : Option A) → ranged p from to o ≡ answer itself (ok_or o (OutOfRange (position from p))) to

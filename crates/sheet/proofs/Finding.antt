@@ -9,15 +9,12 @@ use Rattle.faults.specs.declared.Spot.{Spot}
 use Rattle.sheet.specs.declared.tokens.Mark.{Mark}
 use Rattle.sheet.specs.declared.tokens.Mark.TheVariants.{Dot, Slash, Dash, Star, Comma, LineFeed}
 use Rattle.sheet.specs.Tokens.{is_digit, is_letter, letters_of, token, Tok, number, word, mark, size}
-use Rattle.sheet.specs.Forms.{Want, digits, the, name, byte, same, fits, after, ended, figures, Read, got, noted, went, walk, way_at}
+use Rattle.sheet.specs.Forms.{Want, digits, the, name, byte, same, fits, after, ended, figures, Read, got, noted, went, walk}
 use Rattle.sheet.specs.Readings.{meant, ranged}
 use Rattle.sheet.proofs.Numbers.{past, token_decimal}
 use Rattle.sheet.proofs.Spellings.{spelling, Suits, In, here, there, is_the, parted, closed}
 use Rattle.sheet.proofs.Taking.{token_word}
 use Rattle.sheet.proofs.Walks.{walk_at}
-
-never : {A : Type 0} → false ≡ true → A
-never e = absurd (cc)
 
 -- The token that is written first.
 pub mark_token : (m : Mark) (rest : List ℕ) → token (byte m ∷ rest) ≡ Some (mark m)
@@ -72,11 +69,11 @@ abbrev Open : Mark → Tok → Type 0
 Open m t = fits (the m) t ≡ false
 
 closing : (m : Mark) (w : Want) (t : Tok) → is_the m w ≡ true → Open m t → fits w t ≡ false
-closing m digits t e o = never e
+closing m digits t e o = absurd (cc)
 closing m (the n) (number ds) e o = refl
 closing m (the n) (word ls) e o = refl
 closing m (the n) (mark k) e o = let q = eqb-true (byte m) (byte n) e in subst (λ (b : ℕ). eqb b (byte k) ≡ false) q o
-closing m (name w) t e o = never e
+closing m (name w) t e o = absurd (cc)
 
 pub record Left (m : Mark) (ways : List (List Want)) : Type 0 where
   pub going : ended ways ≡ false
@@ -84,7 +81,7 @@ pub record Left (m : Mark) (ways : List (List Want)) : Type 0 where
 
 left : (m : Mark) (t : Tok) → Open m t → (ways : List (List Want)) → list_all (closed m) ways ≡ true → Left m (after t ways)
 left m t o [] h = record { going = refl; all = refl }
-left m t o ([] ∷ ways) h = never h
+left m t o ([] ∷ ways) h = absurd (cc)
 left m t o ((w ∷ []) ∷ ways) h = let q = and_parts (is_the m w) (list_all (closed m) ways) h in rw (closing m w t q.0 o) (left m t o ways q.1)
 left m t o ((w ∷ v ∷ ws) ∷ ways) h =
     let q = and_parts (closed m (w ∷ v ∷ ws)) (list_all (closed m) ways) h in
@@ -101,7 +98,7 @@ in_closed m way (u ∷ ways) here h = (and_parts (closed m way) (list_all (close
 in_closed m way (u ∷ ways) (there i) h = in_closed m way ways i (and_parts (closed m u) (list_all (closed m) ways) h).1
 
 went_end : (p : Spot) (f : List (List Want) → ℕ → Read (List ℕ)) (t : Tok) (at : ℕ) (ways : List (List Want)) → ended ways ≡ true → went p f t at ways ≡ got (figures t) (at + size t)
-went_end p f t at [] e = never e
+went_end p f t at [] e = absurd (cc)
 went_end p f t at (w ∷ ws) e = rw e
 
 went_on : (p : Spot) (f : List (List Want) → ℕ → Read (List ℕ)) (t : Tok) (at : ℕ) (v : List Want) (ways : List (List Want)) → In v ways → ended ways ≡ false → went p f t at ways ≡ noted (figures t) (f ways (at + size t))
@@ -127,10 +124,10 @@ module _ (m : Mark) (s rest : List ℕ) (p : Spot) where
       ∙ ap (got ns) (omega (arith, size_is, length-append text (spelling (v ∷ ws) ms)))
 
   finds : (way : List Want) (k : ℕ) → length way ≤ k → closed m way ≡ true → Finds k way
-  finds [] k short c ways ns at all i suits d = never c
+  finds [] k short c ways ns at all i suits d = absurd (cc)
   finds (w ∷ ws) zero short c ways ns at all i suits d = absurd (omega arith)
-  finds (digits ∷ []) (suc k) short c ways ns at all i suits d = never c
-  finds (name w ∷ []) (suc k) short c ways ns at all i suits d = never c
+  finds (digits ∷ []) (suc k) short c ways ns at all i suits d = absurd (cc)
+  finds (name w ∷ []) (suc k) short c ways ns at all i suits d = absurd (cc)
   finds (the n ∷ []) (suc k) short c ways [] at all i suits d =
       walk_at k ways s p at (Some (mark n)) (ap token d ∙ mark_token n rest)
       ∙ went_end p (λ us to. walk k us s p to) (mark n) at (after (mark n) ways) (ended_in (after (mark n) ways) (after_in (mark n) (the n) [] ways (eq-eqb (byte n) (byte n) refl) i))
@@ -141,17 +138,17 @@ module _ (m : Mark) (s rest : List ℕ) (p : Spot) where
       one_more k (mark n) (the n) v ws ways (byte n ∷ []) ns ns at (finds (v ∷ ws) k (omega arith) r.1) all i suits (ap token d ∙ mark_token n (spelling (v ∷ ws) ns ++ rest)) (eq-eqb (byte n) (byte n) refl)
       (not-true (eqb (byte m) (byte n)) q.0) d refl refl
   finds (digits ∷ v ∷ ws) (suc k) short c ways [] at all i suits d = absurd suits
-  finds (digits ∷ digits ∷ ws) (suc k) short c ways (n ∷ ns) at all i suits d = never c
-  finds (digits ∷ name u ∷ ws) (suc k) short c ways (n ∷ ns) at all i suits d = never c
+  finds (digits ∷ digits ∷ ws) (suc k) short c ways (n ∷ ns) at all i suits d = absurd (cc)
+  finds (digits ∷ name u ∷ ws) (suc k) short c ways (n ∷ ns) at all i suits d = absurd (cc)
   finds (digits ∷ the u ∷ ws) (suc k) short c ways (n ∷ ns) at all i suits d =
       let e : drop at s ≡ decimal n ++ (spelling (the u ∷ ws) ns ++ rest) = d ∙ append_assoc (decimal n) (spelling (the u ∷ ws) ns) rest in
       one_more k (number (decimal n)) digits (the u) ws ways (decimal n) (n ∷ ns) ns at (finds (the u ∷ ws) k (omega arith) c) all i suits.1
       (ap token e ∙ token_decimal n (spelling (the u ∷ ws) ns ++ rest) suits.0 (mark_alone u).0) refl refl e refl
       (ap (λ (v : ℕ). v ∷ ns) (decimal_is_IsNumeral n (omega (arith, suits.0))).1)
   finds (name w ∷ v ∷ ws) (suc k) short c ways [] at all i suits d = absurd suits
-  finds (name [] ∷ v ∷ ws) (suc k) short c ways (n ∷ ns) at all i suits d = never c
-  finds (name (b ∷ bs) ∷ digits ∷ ws) (suc k) short c ways (n ∷ ns) at all i suits d = never c
-  finds (name (b ∷ bs) ∷ name u ∷ ws) (suc k) short c ways (n ∷ ns) at all i suits d = never c
+  finds (name [] ∷ v ∷ ws) (suc k) short c ways (n ∷ ns) at all i suits d = absurd (cc)
+  finds (name (b ∷ bs) ∷ digits ∷ ws) (suc k) short c ways (n ∷ ns) at all i suits d = absurd (cc)
+  finds (name (b ∷ bs) ∷ name u ∷ ws) (suc k) short c ways (n ∷ ns) at all i suits d = absurd (cc)
   finds (name (b ∷ bs) ∷ the u ∷ ws) (suc k) short c ways (n ∷ ns) at all i suits d =
       let q = and_parts (list_all is_letter (b ∷ bs)) (closed m (the u ∷ ws)) c in
       let e : drop at s ≡ (b ∷ bs) ++ (spelling (the u ∷ ws) ns ++ rest) = d ∙ append_assoc (b ∷ bs) (spelling (the u ∷ ws) ns) rest in
@@ -162,10 +159,6 @@ module _ (m : Mark) (s rest : List ℕ) (p : Spot) where
   pub walk_finds : (k : ℕ) (ways : List (List Want)) (way : List Want) (ns : List ℕ) (at : ℕ) → list_all (closed m) ways ≡ true → In way ways → length way ≤ k → Suits way ns → drop at s ≡ spelling way ns ++ rest →
       walk k ways s p at ≡ got ns (at + length (spelling way ns))
   walk_finds k ways way ns at all i short suits d = finds way k short (in_closed m way ways i all) ways ns at all i suits d
-
-  pub way_finds : (way : List Want) (ns : List ℕ) (at : ℕ) → closed m way ≡ true → Suits way ns → drop at s ≡ spelling way ns ++ rest → way_at way s p at ≡ got ns (at + length (spelling way ns))
-  unfolding way_at
-  way_finds way ns at c suits d = finds way (length way) (omega arith) c (way ∷ []) ns at (and_from (closed m way) true c refl) here suits d
 
 -- Where bytes before the closing mark mean something, a reading of the field answers it.
 abbrev pub Found : {A : Type 0} → Mark → (List ℕ → Spot → ℕ → Read A) → (List ℕ → A → Type 0) → Type 0
@@ -182,6 +175,3 @@ module _ {A : Type 0} (m : Mark) (of : List ℕ → Option A) (s text rest : Lis
 
   pub found_among : (k : ℕ) (ways : List (List Want)) → list_all (closed m) ways ≡ true → In way ways → length way ≤ k → meant of p at (walk k ways s p at) ≡ got x (at + (length text + 1))
   found_among k ways all i short = ap (meant of p at) (walk_finds m s rest p k ways way ns at all i short suits bytes) ∙ meaning
-
-  pub found_alone : closed m way ≡ true → meant of p at (way_at way s p at) ≡ got x (at + (length text + 1))
-  found_alone c = ap (meant of p at) (way_finds m s rest p way ns at c suits bytes) ∙ meaning

@@ -1,22 +1,23 @@
 -- A header line as bytes, and what is read.
-use Rattle.std.proofs.Common.{◌≡◌, ℕ, ◌+◌, ◌<◌, ◌≤◌, Bool, true, cond, ◌&&◌, leb, List, [], ◌∷◌, ◌++◌, length, drop, Some, None, codes, decimal, sym, refl, ap, ◌∙◌, subst, inl, inr, append_assoc, arith, length-append, length-drop}
-use Rattle.std.proofs.lemmas.Bool.{cases_Bool, and_parts, and_from, leb-true, le-leb, eq-eqb}
+use Rattle.std.proofs.Common.{◌≡◌, ℕ, ◌+◌, ◌<◌, ◌≤◌, Bool, true, cond, ◌&&◌, leb, List, [], ◌∷◌, ◌++◌, length, drop, Some, None, codes, decimal, sym, refl, ap, ◌∙◌, subst, append_assoc, arith, length-append, length-drop}
+use Rattle.std.proofs.lemmas.Bool.{and_parts, and_from, leb-true, le-leb, eq-eqb}
 use Rattle.policy.specs.declared.fields.Header.{Header}
 use Rattle.sheet.specs.declared.tokens.Mark.{Mark}
 use Rattle.sheet.specs.declared.tokens.Mark.TheVariants.{Comma, LineFeed}
 use Rattle.std.specs.List.{prefix_len}
 use Rattle.sheet.specs.Forms.{digits, byte, Read, got, fault}
-use Rattle.sheet.specs.Headers.{number_way, up_to, dotted_at, number_at, numbers_at, header_of, header_at}
+use Rattle.sheet.specs.Headers.{dotted_form, number_way, number_form, up_to, dotted_at, number_at, numbers_at, header_of, header_at}
 use Rattle.sheet.specs.Lines.{spot}
 use Rattle.sheet.specs.Readings.{address_low, dotted_of, dotted_rest}
 use Rattle.sheet.specs.Sheets.{not_feed, good}
 use Rattle.sheet.specs.Meaning.{Dotted, UpTo, HeaderLine}
-use Rattle.sheet.proofs.Finding.{Found, found_alone}
-use Rattle.sheet.proofs.Sound.{Only, Written, FieldRead, only_alone}
+use Rattle.sheet.proofs.Finding.{Found, found_among}
+use Rattle.sheet.proofs.Sound.{Only, Written, FieldRead, only_among}
 use Rattle.sheet.proofs.Spellings.{here, there, closed}
 use Rattle.sheet.proofs.LinesRead.{after_field, step, then_got, got_same}
 use Rattle.sheet.proofs.MeansRead.{LineFound, LineOnly, Taken}
 use Rattle.sheet.proofs.Unfed.{run_before}
+use Rattle.sheet.proofs.Tests.{tested}
 
 -- Four numbers with dots.
 abbrev dotted_text : ℕ → ℕ → ℕ → ℕ → List ℕ
@@ -33,34 +34,23 @@ in_range a b c d ha hb hc hd =
 dotted_found : Found Comma dotted_at Dotted
 dotted_found s text rest p at n D e =
     let small = D.small in
-    found_alone Comma dotted_of s text rest p at n e (digits ∷ dotted_rest Comma) (D.a ∷ D.b ∷ D.c ∷ D.d ∷ []) (omega (arith, small.0), (omega (arith, small.1), (omega (arith, small.2), (omega (arith, small.3), tt))))
+    found_among Comma dotted_of s text rest p at n e (digits ∷ dotted_rest Comma) (D.a ∷ D.b ∷ D.c ∷ D.d ∷ []) (omega (arith, small.0), (omega (arith, small.1), (omega (arith, small.2), (omega (arith, small.3), tt))))
     (sym (ap (λ (t : List ℕ). t ++ (44 ∷ [])) D.text_is ∙ apart D.a D.b D.c D.d))
-    (ap (λ (v : Bool). cond v (Some (address_low D.a D.b D.c D.d)) None) (in_range D.a D.b D.c D.d small.0 small.1 small.2 small.3) ∙ ap Some (sym D.n_is)) refl
+    (ap (λ (v : Bool). cond v (Some (address_low D.a D.b D.c D.d)) None) (in_range D.a D.b D.c D.d small.0 small.1 small.2 small.3) ∙ ap Some (sym D.n_is)) 8 dotted_form refl here (omega arith)
 
 number_found : (top : ℕ) (m : Mark) → top < 100000 → Found m (number_at top m) (UpTo top)
 number_found top m h s text rest p at n U e =
-    found_alone m (up_to top) s text rest p at n e (number_way m) (n ∷ []) (omega (arith, U.0), tt) (ap (λ (t : List ℕ). t ++ (byte m ∷ [])) (sym U.1)) (ap (λ (v : Bool). cond v (Some n) None) (le-leb n top U.0)) (mark_closes m)
-  where
-    mark_closes : (m : Mark) → closed m (number_way m) ≡ true
-    mark_closes m = eq-eqb (byte m) (byte m) refl
-
-some_same : (x y : ℕ) → Some x ≡ Some y → x ≡ y
-some_same x y e = cc
+    found_among m (up_to top) s text rest p at n e (number_way m) (n ∷ []) (omega (arith, U.0), tt) (ap (λ (t : List ℕ). t ++ (byte m ∷ [])) (sym U.1)) (ap (λ (v : Bool). cond v (Some n) None) (le-leb n top U.0)) 2 (number_form m) (and_from (closed m (number_way m)) true (eq-eqb (byte m) (byte m) refl) refl) here (omega arith)
 
 four_got : (a b c d n : ℕ) → dotted_of (a ∷ b ∷ c ∷ d ∷ []) ≡ Some n → ((a ≤ 255) × (b ≤ 255) × (c ≤ 255) × (d ≤ 255)) × (n ≡ address_low a b c d)
 four_got a b c d n e =
-    elim (cases_Bool (leb a 255 && (leb b 255 && (leb c 255 && leb d 255)))) [
-      | inl w ↦
-          let f : Some (address_low a b c d) ≡ Some n = ap (λ (v : Bool). cond v (Some (address_low a b c d)) None) (sym w) ∙ e in
-          let k : address_low a b c d ≡ n = some_same (address_low a b c d) n f in
-          let p1 = and_parts (leb a 255) (leb b 255 && (leb c 255 && leb d 255)) w in
-          let p2 = and_parts (leb b 255) (leb c 255 && leb d 255) p1.1 in
-          let p3 = and_parts (leb c 255) (leb d 255) p2.1 in
-          ((leb-true a 255 p1.0, leb-true b 255 p2.0, leb-true c 255 p3.0, leb-true d 255 p3.1), sym k)
-      | inr w ↦ let f : None ≡ Some n = ap (λ (v : Bool). cond v (Some (address_low a b c d)) None) (sym w) ∙ e in absurd (cc)
-    ]
+    let q = tested (leb a 255 && (leb b 255 && (leb c 255 && leb d 255))) (address_low a b c d) n e in
+    let p1 = and_parts (leb a 255) (leb b 255 && (leb c 255 && leb d 255)) q.0 in
+    let p2 = and_parts (leb b 255) (leb c 255 && leb d 255) p1.1 in
+    let p3 = and_parts (leb c 255) (leb d 255) p2.1 in
+    ((leb-true a 255 p1.0, leb-true b 255 p2.0, leb-true c 255 p3.0, leb-true d 255 p3.1), sym q.1)
 
-dotted_written : Written Comma dotted_of Dotted ((digits ∷ dotted_rest Comma) ∷ [])
+dotted_written : Written Comma dotted_of Dotted dotted_form
 dotted_written way [] n here suits e = absurd suits
 dotted_written way (a ∷ []) n here suits e = absurd suits.1
 dotted_written way (a ∷ b ∷ []) n here suits e = absurd suits.1.1
@@ -71,26 +61,19 @@ dotted_written way (a ∷ b ∷ c ∷ d ∷ m ∷ ns) n here suits e = absurd su
 dotted_written way ns n (there i) suits e = elim i [ ]
 
 dotted_only : Only Comma dotted_at Dotted
-dotted_only s p at to n h = only_alone Comma dotted_of Dotted (digits ∷ dotted_rest Comma) dotted_written s at to n p h
+dotted_only s p at to n h = only_among Comma dotted_of Dotted dotted_form dotted_written s at to n 8 p h
 
 one_got : (top a n : ℕ) → up_to top (a ∷ []) ≡ Some n → (n ≤ top) × (a ≡ n)
-one_got top a n e =
-    elim (cases_Bool (leb a top)) [
-      | inl w ↦
-          let f : Some a ≡ Some n = ap (λ (b : Bool). cond b (Some a) None) (sym w) ∙ e in
-          let k = some_same a n f in
-          (subst (λ (x : ℕ). x ≤ top) k (leb-true a top w), k)
-      | inr w ↦ let f : None ≡ Some n = ap (λ (b : Bool). cond b (Some a) None) (sym w) ∙ e in absurd (cc)
-    ]
+one_got top a n e = let q = tested (leb a top) a n e in (subst (λ (x : ℕ). x ≤ top) q.1 (leb-true a top q.0), q.1)
 
-number_written : (top : ℕ) (m : Mark) → Written m (up_to top) (UpTo top) (number_way m ∷ [])
+number_written : (top : ℕ) (m : Mark) → Written m (up_to top) (UpTo top) (number_form m)
 number_written top m way [] n here suits e = absurd suits
 number_written top m way (a ∷ []) n here suits e = let q = one_got top a n e in (decimal a, ((q.0, ap decimal q.1), refl))
 number_written top m way (a ∷ b ∷ ns) n here suits e = absurd suits.1
 number_written top m way ns n (there i) suits e = elim i [ ]
 
 number_only : (top : ℕ) (m : Mark) → Only m (number_at top m) (UpTo top)
-number_only top m s p at to n h = only_alone m (up_to top) (UpTo top) (number_way m) (number_written top m) s at to n p h
+number_only top m s p at to n h = only_among m (up_to top) (UpTo top) (number_form m) (number_written top m) s at to n 2 p h
 
 -- A header line is found.
 long : (x y : List ℕ) (b : ℕ) → length (x ++ (b ∷ y)) ≡ length x + (1 + length y)
@@ -188,15 +171,15 @@ pub headers_only : LineOnly HeaderLine header_at
 headers_only s l at to h e fed =
     let q = header_got (numbers_at s l at) h to e in
     let r1 = then_got (dotted_at s (spot l 1) at) _ h.numbers to q in
-    let r2 = then_got (dotted_at s (spot l 2) r1.1.0) _ h.numbers to r1.1.1.1 in
-    let r3 = then_got (number_at 65535 Comma s (spot l 3) r2.1.0) _ h.numbers to r2.1.1.1 in
-    let r4 = then_got (number_at 65535 Comma s (spot l 4) r3.1.0) _ h.numbers to r3.1.1.1 in
-    let r5 = then_got (number_at 255 LineFeed s (spot l 5) r4.1.0) _ h.numbers to r4.1.1.1 in
-    let same = got_same (r1.0 ∷ r2.0 ∷ r3.0 ∷ r4.0 ∷ r5.0 ∷ []) h.numbers r5.1.0 to r5.1.1.1 in
-    header_whole s at r1.1.0 r2.1.0 r3.1.0 r4.1.0 to r1.0 r2.0 r3.0 r4.0 r5.0 h
-    (dotted_only s (spot l 1) at r1.1.0 r1.0 r1.1.1.0)
-    (dotted_only s (spot l 2) r1.1.0 r2.1.0 r2.0 r2.1.1.0)
-    (number_only 65535 Comma s (spot l 3) r2.1.0 r3.1.0 r3.0 r3.1.1.0)
-    (number_only 65535 Comma s (spot l 4) r3.1.0 r4.1.0 r4.0 r4.1.1.0)
-    (number_only 255 LineFeed s (spot l 5) r4.1.0 to r5.0 (r5.1.1.0 ∙ ap (got r5.0) same.1))
+    let r2 = then_got (dotted_at s (spot l 2) r1.mid) _ h.numbers to r1.others in
+    let r3 = then_got (number_at 65535 Comma s (spot l 3) r2.mid) _ h.numbers to r2.others in
+    let r4 = then_got (number_at 65535 Comma s (spot l 4) r3.mid) _ h.numbers to r3.others in
+    let r5 = then_got (number_at 255 LineFeed s (spot l 5) r4.mid) _ h.numbers to r4.others in
+    let same = got_same (r1.value ∷ r2.value ∷ r3.value ∷ r4.value ∷ r5.value ∷ []) h.numbers r5.mid to r5.others in
+    header_whole s at r1.mid r2.mid r3.mid r4.mid to r1.value r2.value r3.value r4.value r5.value h
+    (dotted_only s (spot l 1) at r1.mid r1.value r1.first)
+    (dotted_only s (spot l 2) r1.mid r2.mid r2.value r2.first)
+    (number_only 65535 Comma s (spot l 3) r2.mid r3.mid r3.value r3.first)
+    (number_only 65535 Comma s (spot l 4) r3.mid r4.mid r4.value r4.first)
+    (number_only 255 LineFeed s (spot l 5) r4.mid to r5.value (r5.first ∙ ap (got r5.value) same.1))
     (sym same.0)

@@ -16,3 +16,4 @@ pub mod Refused
 pub mod HeadersRead
 pub mod Spellings
 pub mod Finding
+pub mod Tests

@@ -14,6 +14,8 @@ use Rattle.sheet.proofs.Numbers.{past}
 use Rattle.sheet.proofs.Ports.{port_found, port_only}
 use Rattle.sheet.proofs.AddressesRead.{address_found, address_only}
 use Rattle.sheet.proofs.Protocols.{protocol_found, protocol_only}
+use Rattle.sheet.specs.declared.tokens.Mark.TheVariants.{Comma}
+use Rattle.sheet.proofs.Sound.{FieldRead}
 use Rattle.sheet.proofs.Unfed.{Unfed, unfed_port, unfed_address, unfed_protocol, run_free, split_feed}
 
 -- What follows a field and its comma.
@@ -113,8 +115,14 @@ module _ (code : List ℕ → Option ℕ) (s rest : List ℕ) (l at : ℕ) where
       ∙ ap (decided rule.ranges (spot l 6) a6 (at + length text)) (ap code w ∙ L.word_means)
 
 -- What was read before and after a step.
-pub then_got : {A B : Type 0} (x : Read A) (f : A → ℕ → Read B) (b : B) (to : ℕ) → and_then x f ≡ got b to → (a : A) × ((m : ℕ) × ((x ≡ got a m) × (f a m ≡ got b to)))
-then_got (got a m) f b to e = (a, (m, (refl, e)))
+pub record Then {A B : Type 0} (x : Read A) (f : A → ℕ → Read B) (b : B) (to : ℕ) : Type 0 where
+  pub value : A
+  pub mid : ℕ
+  pub first : x ≡ got value mid
+  pub others : f value mid ≡ got b to
+
+pub then_got : {A B : Type 0} (x : Read A) (f : A → ℕ → Read B) (b : B) (to : ℕ) → and_then x f ≡ got b to → Then x f b to
+then_got (got a m) f b to e = record { value = a; mid = m; first = refl; others = e }
 then_got (fault g) f b to e = absurd (cc)
 
 pub record Decided (code : List ℕ → Option ℕ) (s : List ℕ) (x : Read (List Range)) (rule : Rule) (to : ℕ) : Type 0 where
@@ -155,21 +163,18 @@ got_same x y m n e = ((cc), (cc))
 
 -- The fields that were read one after another make the line.
 module _
-    (code : List ℕ → Option ℕ) (s : List ℕ) (l at m2 m3 m4 m5 m6 to : ℕ) (t1 t2 t3 t4 t5 : List ℕ) (x1 x2 x3 x4 x5 : Range) (rule : Rule)
-    (d1 : drop at s ≡ t1 ++ (44 ∷ drop m2 s)) (d2 : drop m2 s ≡ t2 ++ (44 ∷ drop m3 s)) (d3 : drop m3 s ≡ t3 ++ (44 ∷ drop m4 s))
-    (d4 : drop m4 s ≡ t4 ++ (44 ∷ drop m5 s)) (d5 : drop m5 s ≡ t5 ++ (44 ∷ drop m6 s))
-    (e1 : m2 ≡ at + (length t1 + 1)) (e2 : m3 ≡ m2 + (length t2 + 1)) (e3 : m4 ≡ m3 + (length t3 + 1)) (e4 : m5 ≡ m4 + (length t4 + 1)) (e5 : m6 ≡ m5 + (length t5 + 1))
-    (h1 : Address t1 x1) (h2 : Address t2 x2) (h3 : Port t3 x3) (h4 : Port t4 x4) (h5 : Protocol t5 x5)
+    (code : List ℕ → Option ℕ) (s : List ℕ) (l at m2 m3 m4 m5 m6 to : ℕ) (x1 x2 x3 x4 x5 : Range) (rule : Rule)
+    (r1 : FieldRead Comma Address s at m2 x1) (r2 : FieldRead Comma Address s m2 m3 x2) (r3 : FieldRead Comma Port s m3 m4 x3) (r4 : FieldRead Comma Port s m4 m5 x4) (r5 : FieldRead Comma Protocol s m5 m6 x5)
     (all : rule.ranges ≡ x1 ∷ x2 ∷ x3 ∷ x4 ∷ x5 ∷ []) (coded : code (up_to_feed s m6) ≡ Some rule.code)
     (end : to ≡ min (m6 + prefix_len not_feed (drop m6 s) + 1) (length s)) (fed : at + prefix_len not_feed (drop at s) < length s)
     (read : ranges_at s l at ≡ got rule.ranges m6) where
   near : m6 + prefix_len not_feed (drop m6 s) < length s
   near =
-      let f1 = feed_after s t1 at m2 d1 e1 (unfed_address t1 x1 h1) in
-      let f2 = feed_after s t2 m2 m3 d2 e2 (unfed_address t2 x2 h2) in
-      let f3 = feed_after s t3 m3 m4 d3 e3 (unfed_port t3 x3 h3) in
-      let f4 = feed_after s t4 m4 m5 d4 e4 (unfed_port t4 x4 h4) in
-      let f5 = feed_after s t5 m5 m6 d5 e5 (unfed_protocol t5 x5 h5) in
+      let f1 = feed_after s r1.text at m2 r1.bytes r1.end (unfed_address r1.text x1 r1.right) in
+      let f2 = feed_after s r2.text m2 m3 r2.bytes r2.end (unfed_address r2.text x2 r2.right) in
+      let f3 = feed_after s r3.text m3 m4 r3.bytes r3.end (unfed_port r3.text x3 r3.right) in
+      let f4 = feed_after s r4.text m4 m5 r4.bytes r4.end (unfed_port r4.text x4 r4.right) in
+      let f5 = feed_after s r5.text m5 m6 r5.bytes r5.end (unfed_protocol r5.text x5 r5.right) in
       subst (λ (n : ℕ). n < length s) (f1 ∙ f2 ∙ f3 ∙ f4 ∙ f5) fed
 
   to_is : to ≡ m6 + suc (prefix_len not_feed (drop m6 s))
@@ -184,11 +189,11 @@ module _
   abbrev whole : Parts
   whole =
       record {
-        source = t1;
-        destination = t2;
-        source_port = t3;
-        destination_port = t4;
-        protocol = t5;
+        source = r1.text;
+        destination = r2.text;
+        source_port = r3.text;
+        destination_port = r4.text;
+        protocol = r5.text;
         word = up_to_feed s m6;
         sources = x1;
         destinations = x2;
@@ -199,7 +204,7 @@ module _
 
   bytes_are : drop at s ≡ joined whole ++ drop to s
   bytes_are =
-      d1 ∙ ap (λ (t : List ℕ). t1 ++ (44 ∷ t)) (d2 ∙ ap (λ (t : List ℕ). t2 ++ (44 ∷ t)) (d3 ∙ ap (λ (t : List ℕ). t3 ++ (44 ∷ t)) (d4 ∙ ap (λ (t : List ℕ). t4 ++ (44 ∷ t)) (d5 ∙ ap (λ (t : List ℕ). t5 ++ (44 ∷ t)) d6))))
+      r1.bytes ∙ ap (λ (t : List ℕ). r1.text ++ (44 ∷ t)) (r2.bytes ∙ ap (λ (t : List ℕ). r2.text ++ (44 ∷ t)) (r3.bytes ∙ ap (λ (t : List ℕ). r3.text ++ (44 ∷ t)) (r4.bytes ∙ ap (λ (t : List ℕ). r4.text ++ (44 ∷ t)) (r5.bytes ∙ ap (λ (t : List ℕ). r5.text ++ (44 ∷ t)) d6))))
       ∙ sym (apart whole (drop to s))
 
   end_is : to ≡ at + length (joined whole)
@@ -209,7 +214,7 @@ module _
       let g = length-drop to s in
       let n = near in
       let t = to_is in
-      omega (arith, sizes, f, g, n, t, e1, e2, e3, e4, e5)
+      omega (arith, sizes, f, g, n, t, r1.end, r2.end, r3.end, r4.end, r5.end)
 
   pub line_whole : LineRead code s l at to rule
   line_whole =
@@ -219,11 +224,11 @@ module _
             record {
               parts = whole;
               text_is = refl;
-              source_means = h1;
-              destination_means = h2;
-              source_port_means = h3;
-              destination_port_means = h4;
-              protocol_means = h5;
+              source_means = r1.right;
+              destination_means = r2.right;
+              source_port_means = r3.right;
+              destination_port_means = r4.right;
+              protocol_means = r5.right;
               ranges_are = all;
               word_means = coded;
             };
@@ -240,19 +245,18 @@ module _ (code : List ℕ → Option ℕ) (s : List ℕ) (l at : ℕ) where
   line_only rule to e fed =
       let q = with_good code s l (ranges_at s l at) rule to e in
       let r1 = then_got (address_at s (spot l 1) at) _ rule.ranges q.from q.ranges in
-      let r2 = then_got (address_at s (spot l 2) r1.1.0) _ rule.ranges q.from r1.1.1.1 in
-      let r3 = then_got (port_at s (spot l 3) r2.1.0) _ rule.ranges q.from r2.1.1.1 in
-      let r4 = then_got (port_at s (spot l 4) r3.1.0) _ rule.ranges q.from r3.1.1.1 in
-      let r5 = then_got (protocol_at s (spot l 5) r4.1.0) _ rule.ranges q.from r4.1.1.1 in
-      let t1 = address_only s (spot l 1) at r1.1.0 r1.0 r1.1.1.0 in
-      let t2 = address_only s (spot l 2) r1.1.0 r2.1.0 r2.0 r2.1.1.0 in
-      let t3 = port_only s (spot l 3) r2.1.0 r3.1.0 r3.0 r3.1.1.0 in
-      let t4 = port_only s (spot l 4) r3.1.0 r4.1.0 r4.0 r4.1.1.0 in
-      let t5 = protocol_only s (spot l 5) r4.1.0 r5.1.0 r5.0 r5.1.1.0 in
-      let same = got_same (r1.0 ∷ r2.0 ∷ r3.0 ∷ r4.0 ∷ r5.0 ∷ []) rule.ranges r5.1.0 q.from r5.1.1.1 in
-      line_whole code s l at r1.1.0 r2.1.0 r3.1.0 r4.1.0 r5.1.0 to t1.text t2.text t3.text t4.text t5.text r1.0 r2.0 r3.0 r4.0 r5.0 rule
-      t1.bytes t2.bytes t3.bytes t4.bytes t5.bytes t1.end t2.end t3.end t4.end t5.end
-      t1.right t2.right t3.right t4.right t5.right (sym same.0)
+      let r2 = then_got (address_at s (spot l 2) r1.mid) _ rule.ranges q.from r1.others in
+      let r3 = then_got (port_at s (spot l 3) r2.mid) _ rule.ranges q.from r2.others in
+      let r4 = then_got (port_at s (spot l 4) r3.mid) _ rule.ranges q.from r3.others in
+      let r5 = then_got (protocol_at s (spot l 5) r4.mid) _ rule.ranges q.from r4.others in
+      let same = got_same (r1.value ∷ r2.value ∷ r3.value ∷ r4.value ∷ r5.value ∷ []) rule.ranges r5.mid q.from r5.others in
+      line_whole code s l at r1.mid r2.mid r3.mid r4.mid r5.mid to r1.value r2.value r3.value r4.value r5.value rule
+      (address_only s (spot l 1) at r1.mid r1.value r1.first)
+      (address_only s (spot l 2) r1.mid r2.mid r2.value r2.first)
+      (port_only s (spot l 3) r2.mid r3.mid r3.value r3.first)
+      (port_only s (spot l 4) r3.mid r4.mid r4.value r4.first)
+      (protocol_only s (spot l 5) r4.mid r5.mid r5.value r5.first)
+      (sym same.0)
       (ap (λ (m : ℕ). code (up_to_feed s m)) same.1 ∙ q.word)
       (q.end ∙ ap (λ (m : ℕ). min (m + prefix_len not_feed (drop m s) + 1) (length s)) (sym same.1)) fed
       (q.ranges ∙ ap (got rule.ranges) (sym same.1))

@@ -1,6 +1,6 @@
 -- A port as bytes, and what is read.
-use Rattle.std.proofs.Common.{◌≡◌, ℕ, ◌≤◌, Bool, cond, ◌&&◌, leb, [], ◌∷◌, ◌++◌, List, Some, None, codes, decimal, sym, refl, ap, ◌∙◌, inl, inr, append_assoc, arith}
-use Rattle.std.proofs.lemmas.Bool.{cases_Bool, and_parts, and_from, leb-true, le-leb}
+use Rattle.std.proofs.Common.{◌≡◌, ℕ, ◌≤◌, ◌&&◌, leb, [], ◌∷◌, ◌++◌, List, Some, codes, decimal, sym, refl, ap, ◌∙◌, append_assoc, arith}
+use Rattle.std.proofs.lemmas.Bool.{and_parts, and_from, leb-true, le-leb}
 use Rattle.policy.specs.declared.rules.Range.{Range}
 use Rattle.sheet.specs.declared.tokens.Mark.TheVariants.{Dash, Star, Comma}
 use Rattle.sheet.specs.Forms.{digits, the, port_form}
@@ -9,6 +9,7 @@ use Rattle.sheet.specs.Meaning.{Port, every, single, between}
 use Rattle.sheet.proofs.Finding.{Found, found_among}
 use Rattle.sheet.proofs.Sound.{Only, Written, only_among}
 use Rattle.sheet.proofs.Spellings.{here, there}
+use Rattle.sheet.proofs.Tests.{tested}
 
 in_range : (a b : ℕ) → b ≤ 65535 → a ≤ b → port_of (a ∷ b ∷ []) ≡ Some (span a b)
 in_range a b h k = rw (and_from (leb b 65535) (leb a b) (le-leb b 65535 h) (le-leb a b k))
@@ -26,21 +27,12 @@ port_found s text rest p at x (between lo hi le h e ex) d =
     (sym (append_assoc (decimal lo) (45 ∷ decimal hi) (44 ∷ [])) ∙ ap (λ (t : List ℕ). t ++ (44 ∷ [])) (sym e)) (in_range lo hi h le ∙ ap Some (sym ex)) 4 port_form refl (there (there here)) (omega arith)
 
 one_got : (a : ℕ) (x : Range) → port_of (a ∷ []) ≡ Some x → (a ≤ 65535) × (x ≡ span a a)
-one_got a x e =
-    elim (cases_Bool (leb a 65535)) [
-      | inl w ↦ let f : Some (span a a) ≡ Some x = ap (λ (b : Bool). cond b (Some (span a a)) None) (sym w) ∙ e in (leb-true a 65535 w, let q : span a a ≡ x = cc in sym q)
-      | inr w ↦ let f : None ≡ Some x = ap (λ (b : Bool). cond b (Some (span a a)) None) (sym w) ∙ e in absurd (cc)
-    ]
+one_got a x e = let q = tested (leb a 65535) (span a a) x e in (leb-true a 65535 q.0, sym q.1)
 
 two_got : (a b : ℕ) (x : Range) → port_of (a ∷ b ∷ []) ≡ Some x → (a ≤ b) × (b ≤ 65535) × (x ≡ span a b)
 two_got a b x e =
-    elim (cases_Bool (leb b 65535 && leb a b)) [
-      | inl w ↦
-          let f : Some (span a b) ≡ Some x = ap (λ (v : Bool). cond v (Some (span a b)) None) (sym w) ∙ e in
-          let q = and_parts (leb b 65535) (leb a b) w in
-          (leb-true a b q.1, leb-true b 65535 q.0, let r : span a b ≡ x = cc in sym r)
-      | inr w ↦ let f : None ≡ Some x = ap (λ (v : Bool). cond v (Some (span a b)) None) (sym w) ∙ e in absurd (cc)
-    ]
+    let q = tested (leb b 65535 && leb a b) (span a b) x e in
+    let p = and_parts (leb b 65535) (leb a b) q.0 in (leb-true a b p.1, leb-true b 65535 p.0, sym q.1)
 
 written : Written Comma port_of Port port_form
 written way [] x here suits e = let q : span 0 65535 ≡ x = cc in (codes "*", (every refl (sym q), refl))

@@ -1,6 +1,6 @@
 -- A protocol as bytes, and what is read.
-use Rattle.std.proofs.Common.{◌≡◌, ℕ, ◌≤◌, Bool, cond, leb, List, [], ◌∷◌, ◌++◌, Some, None, codes, decimal, sym, refl, ap, ◌∙◌, inl, inr, arith}
-use Rattle.std.proofs.lemmas.Bool.{cases_Bool, leb-true, le-leb}
+use Rattle.std.proofs.Common.{◌≡◌, ℕ, ◌≤◌, leb, List, [], ◌∷◌, ◌++◌, Some, codes, decimal, sym, refl, ap, ◌∙◌, arith}
+use Rattle.std.proofs.lemmas.Bool.{leb-true, le-leb}
 use Rattle.policy.specs.declared.rules.Range.{Range}
 use Rattle.sheet.specs.declared.tokens.Mark.TheVariants.{Star, Comma}
 use Rattle.sheet.specs.Forms.{digits, the, name, protocol_form}
@@ -9,6 +9,7 @@ use Rattle.sheet.specs.Meaning.{Protocol, every, single, tcp, udp, icmp}
 use Rattle.sheet.proofs.Finding.{Found, found_among}
 use Rattle.sheet.proofs.Sound.{Only, Written, only_among}
 use Rattle.sheet.proofs.Spellings.{here, there}
+use Rattle.sheet.proofs.Tests.{tested}
 
 one_in_range : (a : ℕ) → a ≤ 255 → protocol_of (a ∷ []) ≡ Some (span a a)
 one_in_range a h = rw (le-leb a 255 h)
@@ -26,11 +27,7 @@ protocol_found s text rest p at x (icmp e ex) d =
     found_among Comma protocol_of s text rest p at x d (name (codes "icmp") ∷ the Comma ∷ []) (1 ∷ []) (refl, tt) (ap (λ (t : List ℕ). t ++ (44 ∷ [])) (sym e)) (ap Some (sym ex)) 2 protocol_form refl (there (there (there (there here)))) (omega arith)
 
 one_got : (a : ℕ) (x : Range) → protocol_of (a ∷ []) ≡ Some x → (a ≤ 255) × (x ≡ span a a)
-one_got a x e =
-    elim (cases_Bool (leb a 255)) [
-      | inl w ↦ let f : Some (span a a) ≡ Some x = ap (λ (b : Bool). cond b (Some (span a a)) None) (sym w) ∙ e in (leb-true a 255 w, let q : span a a ≡ x = cc in sym q)
-      | inr w ↦ let f : None ≡ Some x = ap (λ (b : Bool). cond b (Some (span a a)) None) (sym w) ∙ e in absurd (cc)
-    ]
+one_got a x e = let q = tested (leb a 255) (span a a) x e in (leb-true a 255 q.0, sym q.1)
 
 -- The number of a name is that of its protocol.
 named_got : (a n : ℕ) (x : Range) → n ≡ a → protocol_of (n ∷ []) ≡ Some x → x ≡ span a a

@@ -1,9 +1,9 @@
 -- What was read is what the bytes say: one proof for all forms.
-use Rattle.std.proofs.Common.{◌≡◌, ℕ, zero, suc, ◌+◌, ◌<◌, Bool, true, false, cond, not, ◌||◌, eqb, leb, List, [], ◌∷◌, ◌++◌, length, get_or, take, drop, Some, None, decimal, Option, sym, refl, ap, ◌∙◌, subst, inl, inr, append_assoc, append-nil, arith, length-append, rules, one-add}
+use Rattle.std.proofs.Common.{◌≡◌, ℕ, zero, suc, ◌+◌, ◌<◌, Bool, true, false, cond, not, ◌||◌, eqb, leb, List, [], ◌∷◌, ◌++◌, length, get_or, drop, Some, None, decimal, Option, sym, refl, ap, ◌∙◌, subst, inl, inr, append_assoc, append-nil, arith, length-append, rules, one-add}
 use Rattle.std.specs.Str.Parse.{AllDigits, digits_value}
 use Rattle.std.proofs.lemmas.Bool.{cases_Bool, eqb-true, and_parts, or_cases, leb-true, not-true}
 use Rattle.std.proofs.lemmas.Bool.Decides.{nat_tests}
-use Rattle.std.proofs.lemmas.List.{drop-drop}
+use Rattle.std.proofs.lemmas.List.{drop-drop, take-append-drop}
 use Rattle.std.proofs.lemmas.Str.Parse.{IsNumeralModel, numerals_by_value, digits_value_short}
 use Rattle.std.proofs.lemmas.Fmt.{decimal-digits_value}
 use Rattle.sheet.specs.declared.tokens.Mark.{Mark}
@@ -12,38 +12,21 @@ use Rattle.faults.specs.declared.Spot.{Spot}
 use Rattle.std.specs.List.{prefix_len}
 use Rattle.std.proofs.lemmas.List.Folds.{length-prefix_len}
 use Rattle.sheet.specs.Tokens.{is_digit, is_letter, mark_of, as_mark, number_if_made, token, Tok, number, word, mark, size, well_made, digits_of, letters_of}
-use Rattle.sheet.specs.Forms.{Want, digits, the, name, byte, same, named, fits, figures, after, ended, Read, got, fault, noted, went, turn, walk, way_at, position}
+use Rattle.sheet.specs.Forms.{Want, digits, the, name, byte, same, named, fits, figures, after, ended, Read, got, fault, noted, went, turn, walk}
 use Rattle.sheet.specs.Readings.{meant, ranged}
 use Rattle.sheet.proofs.Spellings.{spelling, Suits, In, here, there}
 use Rattle.sheet.proofs.Taking.{token_number, token_word, token_other, all_digits, run_of_digits}
+use Rattle.sheet.proofs.Tests.{tested}
 
 own : IsNumeralModel (AllDigits 10) (digits_value 10)
 own = numerals_by_value (AllDigits 10) (search rules)
 
-split : (n : ℕ) (l : List ℕ) → l ≡ take n l ++ drop n l
-split zero l = refl
-split (suc n) [] = refl
-split (suc n) (x ∷ xs) = ap (λ (t : List ℕ). x ∷ t) (split n xs)
-
-never : {A : Type 0} → false ≡ true → A
-never e = absurd (cc)
-
 -- What a token says of the bytes that it begins.
 made_number : (bs ds : List ℕ) → number_if_made bs ≡ Some (number ds) → (bs ≡ ds) × (well_made ds ≡ true)
-made_number bs ds e =
-    elim (cases_Bool (well_made bs)) [
-      | inl w ↦
-          let f : Some (number bs) ≡ Some (number ds) = ap (λ (v : Bool). cond v (Some (number bs)) None) (sym w) ∙ e in
-          let q : bs ≡ ds = cc in (q, subst (λ (x : List ℕ). well_made x ≡ true) q w)
-      | inr w ↦ let f : None ≡ Some (number ds) = ap (λ (v : Bool). cond v (Some (number bs)) None) (sym w) ∙ e in absurd (cc)
-    ]
+made_number bs ds e = let q = tested (well_made bs) (number bs) (number ds) e in let r = q.1 in let same : bs ≡ ds = cc in (same, subst (λ (x : List ℕ). well_made x ≡ true) same q.0)
 
 made_other : {A : Type 0} (bs : List ℕ) (t : Tok) → ((ds : List ℕ) → number ds ≡ t → ⊥) → number_if_made bs ≡ Some t → A
-made_other bs t other e =
-    elim (cases_Bool (well_made bs)) [
-      | inl w ↦ let f : Some (number bs) ≡ Some t = ap (λ (v : Bool). cond v (Some (number bs)) None) (sym w) ∙ e in absurd (other bs (cc))
-      | inr w ↦ let f : None ≡ Some t = ap (λ (v : Bool). cond v (Some (number bs)) None) (sym w) ∙ e in absurd (cc)
-    ]
+made_other bs t other e = absurd (other bs (tested (well_made bs) (number bs) t e).1)
 
 as_mark_is : (o : Option Mark) (t : Tok) → as_mark o ≡ Some t → (m : Mark) × ((o ≡ Some m) × (t ≡ mark m))
 as_mark_is None t e = absurd (cc)
@@ -118,7 +101,7 @@ lead ds w e =
     ]
 
 digits_some : (bs : List ℕ) → is_digit (get_or bs 0 0) ≡ true → 0 < length (digits_of bs)
-digits_some [] e = never e
+digits_some [] e = absurd (cc)
 digits_some (b ∷ bs) e = rw (e, one-add) (omega arith)
 
 -- A token that is wanted, as bytes and as numbers, before what else is spelled.
@@ -140,7 +123,7 @@ module _ (v : List Want) (ms bs rest : List ℕ) (suits : Suits v ms) where
       record {
         suits = (small, suits);
         bytes =
-            split (prefix_len is_digit bs) bs ∙ ap (λ (t : List ℕ). t ++ drop (prefix_len is_digit bs) bs) q.1 ∙ ap (λ (k : ℕ). ds ++ drop k bs) (sym len)
+            sym (take-append-drop (prefix_len is_digit bs) bs) ∙ ap (λ (t : List ℕ). t ++ drop (prefix_len is_digit bs) bs) q.1 ∙ ap (λ (k : ℕ). ds ++ drop k bs) (sym len)
             ∙ ap (λ (t : List ℕ). ds ++ t) d ∙ ap (λ (t : List ℕ). t ++ (spelling v ms ++ rest)) (sym same) ∙ sym (append_assoc (decimal (digits_value 10 ds)) (spelling v ms) rest);
         length_is = length-append (decimal (digits_value 10 ds)) (spelling v ms) ∙ ap (λ (t : List ℕ). length t + length (spelling v ms)) same;
       }
@@ -162,24 +145,24 @@ module _ (v : List Want) (ms bs rest : List ℕ) (suits : Suits v ms) where
       record {
         suits = (ap named (sym is), suits);
         bytes =
-            split (prefix_len is_letter bs) bs ∙ ap (λ (t : List ℕ). t ++ drop (prefix_len is_letter bs) bs) q ∙ ap (λ (k : ℕ). ls ++ drop k bs) (sym len)
+            sym (take-append-drop (prefix_len is_letter bs) bs) ∙ ap (λ (t : List ℕ). t ++ drop (prefix_len is_letter bs) bs) q ∙ ap (λ (k : ℕ). ls ++ drop k bs) (sym len)
             ∙ ap (λ (t : List ℕ). ls ++ t) d ∙ ap (λ (t : List ℕ). t ++ (spelling v ms ++ rest)) (sym is) ∙ sym (append_assoc w (spelling v ms) rest);
         length_is = length-append w (spelling v ms) ∙ ap (λ (t : List ℕ). length t + length (spelling v ms)) is;
       }
 
   spelled : (w : Want) (t : Tok) → token bs ≡ Some t → fits w t ≡ true → drop (size t) bs ≡ spelling v ms ++ rest → Spelled w t v ms bs rest
   spelled digits (number ds) e f d = spelled_number ds e d
-  spelled digits (word ls) e f d = never f
-  spelled digits (mark m) e f d = never f
-  spelled (the m) (number ds) e f d = never f
-  spelled (the m) (word ls) e f d = never f
+  spelled digits (word ls) e f d = absurd (cc)
+  spelled digits (mark m) e f d = absurd (cc)
+  spelled (the m) (number ds) e f d = absurd (cc)
+  spelled (the m) (word ls) e f d = absurd (cc)
   spelled (the m) (mark n) e f d = spelled_mark m n e f d
-  spelled (name w) (number ds) e f d = never f
+  spelled (name w) (number ds) e f d = absurd (cc)
   spelled (name w) (word ls) e f d = spelled_word w ls e f d
-  spelled (name w) (mark m) e f d = never f
+  spelled (name w) (mark m) e f d = absurd (cc)
 
 ended_in : (ways : List (List Want)) → ended ways ≡ true → In [] ways
-ended_in [] e = never e
+ended_in [] e = absurd (cc)
 ended_in ([] ∷ ways) e = here
 ended_in ((w ∷ ws) ∷ ways) e = there (ended_in ways e)
 
@@ -205,11 +188,8 @@ pub record Stands (ways : List (List Want)) (s : List ℕ) (at : ℕ) (ns : List
   pub bytes : drop at s ≡ spelling way ns ++ drop to s
   pub end : to ≡ at + length (spelling way ns)
 
-fault_got : {A : Type 0} (e : Rattle.faults.specs.declared.FieldFault.FieldFault) (ns : List ℕ) (to : ℕ) → fault e ≡ got ns to → A
-fault_got e ns to h = absurd (cc)
-
 noted_got : (ns : List ℕ) (x : Read (List ℕ)) (ls : List ℕ) (to : ℕ) → noted ns x ≡ got ls to → (ms : List ℕ) × ((x ≡ got ms to) × (ls ≡ ns ++ ms))
-noted_got ns (fault e) ls to h = fault_got e ls to h
+noted_got ns (fault e) ls to h = absurd (cc)
 noted_got ns (got ms m) ls to h = (ms, (let q : m ≡ to = cc in ap (got ms) q, let q : ns ++ ms ≡ ls = cc in sym q))
 
 one_first : (ways : List (List Want)) (s : List ℕ) (at : ℕ) (t : Tok) (v : List Want) (ms : List ℕ) (to : ℕ) → token (drop at s) ≡ Some t → In v (after t ways) →
@@ -222,7 +202,7 @@ one_first ways s at t v ms to e i suits d l =
 went_sound : (p : Spot) (f : List (List Want) → ℕ → Read (List ℕ)) (ways : List (List Want)) (s : List ℕ) (at : ℕ) (t : Tok) (ns : List ℕ) (to : ℕ) → token (drop at s) ≡ Some t →
     ((vs : List (List Want)) (a : ℕ) (ms : List ℕ) → f vs a ≡ got ms to → Stands vs s a ms to) →
     (vs : List (List Want)) → after t ways ≡ vs → went p f t at vs ≡ got ns to → Stands ways s at ns to
-went_sound p f ways s at t ns to e rec [] a h = fault_got (Rattle.faults.specs.declared.FieldFault.TheVariants.Misfit (position at p)) ns to h
+went_sound p f ways s at t ns to e rec [] a h = absurd (cc)
 went_sound p f ways s at t ns to e rec (v ∷ vs) a h =
     elim (cases_Bool (ended (v ∷ vs))) [
       | inl w ↦
@@ -242,17 +222,13 @@ went_sound p f ways s at t ns to e rec (v ∷ vs) a h =
 turn_sound : (p : Spot) (f : List (List Want) → ℕ → Read (List ℕ)) (ways : List (List Want)) (s : List ℕ) (at : ℕ) (ns : List ℕ) (to : ℕ) →
     ((vs : List (List Want)) (a : ℕ) (ms : List ℕ) → f vs a ≡ got ms to → Stands vs s a ms to) →
     (o : Option Tok) → token (drop at s) ≡ o → turn p f ways at o ≡ got ns to → Stands ways s at ns to
-turn_sound p f ways s at ns to rec None e h = fault_got (Rattle.faults.specs.declared.FieldFault.TheVariants.IllMade (record { position = position at p })) ns to h
+turn_sound p f ways s at ns to rec None e h = absurd (cc)
 turn_sound p f ways s at ns to rec (Some t) e h = went_sound p f ways s at t ns to e rec (after t ways) refl h
 
 pub walk_sound : (k : ℕ) (ways : List (List Want)) (s : List ℕ) (p : Spot) (at : ℕ) (ns : List ℕ) (to : ℕ) → walk k ways s p at ≡ got ns to → Stands ways s at ns to
-walk_sound zero ways s p at ns to h = fault_got (Rattle.faults.specs.declared.FieldFault.TheVariants.Misfit (position at p)) ns to h
+walk_sound zero ways s p at ns to h = absurd (cc)
 walk_sound (suc k) ways s p at ns to h =
     turn_sound p (λ vs a. walk k vs s p a) ways s at ns to (λ vs a ms. walk_sound k vs s p a ms to) (token (drop at s)) refl h
-
-pub way_sound : (way : List Want) (s : List ℕ) (p : Spot) (at : ℕ) (ns : List ℕ) (to : ℕ) → way_at way s p at ≡ got ns to → Stands (way ∷ []) s at ns to
-unfolding way_at
-way_sound way s p at ns to h = walk_sound (length way) (way ∷ []) s p at ns to h
 
 -- A field was read: these bytes, with the mark that closes them.
 pub record FieldRead {A : Type 0} (m : Mark) (means : List ℕ → A → Type 0) (s : List ℕ) (at to : ℕ) (x : A) : Type 0 where
@@ -291,8 +267,3 @@ module _ {A : Type 0} (m : Mark) (of : List ℕ → Option A) (Means : List ℕ 
 
   pub only_among : (k : ℕ) (p : Spot) → meant of p at (walk k ways s p at) ≡ got x to → FieldRead m Means s at to x
   only_among k p h = let q = meant_got of p at (walk k ways s p at) x to h in field_read q.0 (walk_sound k ways s p at q.0 to q.1.0) q.1.1
-
-pub only_alone : {A : Type 0} (m : Mark) (of : List ℕ → Option A) (Means : List ℕ → A → Type 0) (way : List Want) (written : Written m of Means (way ∷ [])) (s : List ℕ) (at to : ℕ) (x : A) (p : Spot) →
-    meant of p at (way_at way s p at) ≡ got x to → FieldRead m Means s at to x
-only_alone m of Means way written s at to x p h =
-    let q = meant_got of p at (way_at way s p at) x to h in field_read m of Means (way ∷ []) written s at to x q.0 (way_sound way s p at q.0 to q.1.0) q.1.1

@@ -1,5 +1,5 @@
 -- What is known of the token that begins some bytes.
-use Rattle.std.proofs.Common.{◌≡◌, ℕ, zero, suc, ◌+◌, ◌*◌, ◌-◌, ◌^◌, ◌<◌, ◌≤◌, Bool, true, false, cond, List, [], ◌∷◌, length, get_or, take, Some, None, Option, inl, inr, sym, refl, ap, ◌∙◌, zero-lt-suc, arith, length-take, one-add}
+use Rattle.std.proofs.Common.{◌≡◌, ℕ, zero, suc, ◌+◌, ◌*◌, ◌-◌, ◌^◌, ◌<◌, ◌≤◌, true, false, List, [], ◌∷◌, length, get_or, take, Some, None, Option, inl, inr, sym, refl, ap, ◌∙◌, zero-lt-suc, arith, length-take, one-add}
 use Rattle.std.proofs.Math.Nat.{pow-le-pow_right}
 use Rattle.std.specs.List.{list_all, take_while}
 use Rattle.std.specs.Str.Parse.{AllDigits, digits_value}
@@ -12,6 +12,7 @@ use Rattle.std.proofs.lemmas.Bool.{cases_Bool, and_parts}
 use Rattle.std.proofs.lemmas.Bool.Decides.{nat_tests}
 use Rattle.sheet.specs.declared.tokens.Mark.{Mark}
 use Rattle.sheet.specs.Tokens.{is_digit, is_letter, mark_of, as_mark, number_if_made, token, Tok, number, word, mark, size, well_made, digits_of, letters_of}
+use Rattle.sheet.proofs.Tests.{tested}
 
 -- A run of digits is made of digits.
 pub run_of_digits : (bs : List ℕ) → list_all is_digit (take_while is_digit bs) ≡ true
@@ -44,11 +45,7 @@ token_none = refl
 
 -- A token lies within the bytes that it begins.
 made_size : (ds : List ℕ) (t : Tok) → number_if_made ds ≡ Some t → size t ≡ length ds
-made_size ds t e =
-    elim (cases_Bool (well_made ds)) [
-      | inl w ↦ let f : Some (number ds) ≡ Some t = ap (λ (v : Bool). cond v (Some (number ds)) None) (sym w) ∙ e in let q : t ≡ number ds = cc in ap size q
-      | inr w ↦ let f : None ≡ Some t = ap (λ (v : Bool). cond v (Some (number ds)) None) (sym w) ∙ e in absurd (cc)
-    ]
+made_size ds t e = ap size (sym (tested (well_made ds) (number ds) t e).1)
 
 mark_size : (o : Option Mark) (t : Tok) → as_mark o ≡ Some t → size t ≡ 1
 mark_size None t e = absurd (cc)

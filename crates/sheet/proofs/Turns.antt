@@ -1,7 +1,7 @@
 -- A turn of the loop over lines.
 use Rattle.std.proofs.Common.{◌≡◌, ℕ, zero, suc, ◌+◌, ◌-◌, ◌<◌, ◌≤◌, min, Bool, cond, leb, List, [], ◌∷◌, ◌++◌, length, take, drop, set, None, Ok, Err, Result, sym, refl, ap, ◌∙◌, subst, append_assoc, append-nil, arith, length-take}
 use Rattle.std.proofs.lemmas.Bool.{le-leb, lt-leb}
-use Rattle.std.proofs.lemmas.List.{take_more_set, drop-set-lt, drop-drop}
+use Rattle.std.proofs.lemmas.List.{take_more_set, drop-set-lt, drop-drop, take-append-drop}
 use Rattle.faults.specs.declared.SheetFault.{SheetFault}
 use Rattle.faults.specs.declared.SheetFault.TheVariants.{TooLong, NoPlace, NoLineFeed}
 use Rattle.std.specs.List.{prefix_len}
@@ -13,11 +13,6 @@ prefixed rs a = record { entries = rs ++ a.entries; stop = a.stop }
 abbrev pub clean : {A : Type 0} → Answer A
 clean = record { entries = []; stop = None }
 
-whole : {A : Type 0} (n : ℕ) (l : List A) → take n l ++ drop n l ≡ l
-whole {A = A} zero l = refl
-whole {A = A} (suc n) [] = refl
-whole {A = A} (suc n) (x ∷ xs) = ap (λ (t : List A). x ∷ t) (whole n xs)
-
 kept : {A : Type 0} (w : Answer A) (was is : List A) (n : ℕ) → w.entries ≡ take n is → drop n is ≡ drop n was → n ≤ length is → is ≡ w.entries ++ drop (length w.entries) was
 kept {A = A} w was is n q d h =
     let k : length (take n is) ≡ n = simp length-take (omega arith) in
@@ -25,7 +20,7 @@ kept {A = A} w was is n q d h =
     (ap (λ (t : List A). t ++ drop (length t) was) q
     ∙ ap (λ (m : ℕ). take n is ++ drop m was) k
     ∙ ap (λ (t : List A). take n is ++ t) (sym d)
-    ∙ whole n is)
+    ∙ take-append-drop n is)
 
 pub ends_fault : {A : Type 0} (w : Answer A) (was is : List A) (n : ℕ) (e : SheetFault) → w ≡ prefixed (take n is) (stopped e) → drop n is ≡ drop n was → n ≤ length is → Answers w was is (Err e)
 ends_fault {A = A} w was is n e h d l =

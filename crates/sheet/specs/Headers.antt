@@ -5,14 +5,21 @@ use Rattle.sheet.specs.declared.tokens.Mark.{Mark}
 use Rattle.sheet.specs.declared.tokens.Mark.TheVariants.{Comma, LineFeed}
 use Rattle.faults.specs.declared.Spot.{Spot}
 use Rattle.faults.specs.declared.SheetFault.TheVariants.{Field}
-use Rattle.sheet.specs.Forms.{Want, digits, the, Read, got, fault, way_at}
+use Rattle.sheet.specs.Forms.{Want, digits, the, Read, got, fault, walk}
 use Rattle.sheet.specs.Lines.{spot, and_then}
 use Rattle.sheet.specs.Readings.{dotted_of, dotted_rest, meant}
 use Rattle.sheet.specs.Sheets.{Lined, good, bad}
 
+-- Four numbers with dots, and the comma.
+abbrev pub dotted_form : List (List Want)
+dotted_form = (digits ∷ dotted_rest Comma) ∷ []
+
 -- A number, and the mark that closes its field.
 abbrev pub number_way : Mark → List Want
 number_way close = digits ∷ the close ∷ []
+
+abbrev pub number_form : Mark → List (List Want)
+number_form close = number_way close ∷ []
 
 -- A number up to the top.
 abbrev pub up_to : ℕ → List ℕ → Option ℕ
@@ -21,10 +28,10 @@ up_to top (n ∷ []) = cond (nat_le n top) (Some n) None
 up_to top (n ∷ m ∷ ns) = None
 
 abbrev pub dotted_at : List ℕ → Spot → ℕ → Read ℕ
-dotted_at s p at = meant dotted_of p at (way_at (digits ∷ dotted_rest Comma) s p at)
+dotted_at s p at = meant dotted_of p at (walk 8 dotted_form s p at)
 
 abbrev pub number_at : ℕ → Mark → List ℕ → Spot → ℕ → Read ℕ
-number_at top close s p at = meant (up_to top) p at (way_at (number_way close) s p at)
+number_at top close s p at = meant (up_to top) p at (walk 2 (number_form close) s p at)
 
 -- The five numbers of header line l, which begins at byte `at`; the line feed closes the last field.
 abbrev pub numbers_at : List ℕ → ℕ → ℕ → Read (List ℕ)

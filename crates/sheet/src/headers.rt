@@ -25,6 +25,7 @@ impl<'a> Reader<'a> {
     }
 
     // A number up to the top, and the mark that closes its field.
+    #[tactic(auto, unfolding(crate::specs::Forms::way_at))]
     fn header_number(&mut self, field: u8, top: u32, close: Mark) -> Result<u32, FieldFault>
         ensures { InLine (in_field (number_at top close) field) self.old self.new (answer itself result self.new.at) }
     {
