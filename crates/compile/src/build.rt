@@ -1,5 +1,5 @@
 // The reduced diagram of a rule list.
-ghost use Rattle.std.specs.Prelude.{◌≡◌, ◌≤◌, length, MatchOption};
+ghost use Rattle.std.specs.Prelude.{◌≡◌, MatchOption};
 ghost use Rattle.policy.specs.Fields.{widths};
 ghost use Rattle.policy.specs.Rules.{decide};
 ghost use Rattle.diagram.specs.States.{Failed};
@@ -13,7 +13,6 @@ use crate::lives::{Lives, Rest, top_of};
 use crate::places::clear_levels;
 use crate::sets::BitSet;
 use policy::fields::FIELDS;
-use policy::rules::Rule;
 
 // The node of the remainder after the header's first fields, with all that it leads to; for a whole
 // header, its code. None where the diagram is too large or a header meets no rule.
@@ -58,20 +57,18 @@ fn build(
 // The reduced diagram of the rules, in the levels; none, where it is too large or a header meets no rule.
 // What is known before the call does not matter.
 pub(crate) fn reduce(
-    rules: &[Rule],
+    lives: &Lives,
     levels: &mut [Level; FIELDS],
     known: &mut [Option<Known>],
 ) -> Option<()>
-    requires { length rules.now ≤ 64 }
-    ensures { MatchOption result (Failed widths (decide rules.now)) (λ _. Reduced widths (decide rules.now) (diagram_of levels.new)) }
+    ensures { MatchOption result (Failed widths (decide lives.now.rules.now)) (λ _. Reduced widths (decide lives.now.rules.now) (diagram_of levels.new)) }
 {
     clear_levels(levels);
     forget(known);
-    let lives = Lives::new(rules);
     let all = Rest {
         field: 0,
         live: BitSet::FULL,
     };
-    build(&lives, [0; FIELDS], all, levels, known)?;
+    build(lives, [0; FIELDS], all, levels, known)?;
     Some(())
 }

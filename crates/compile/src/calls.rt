@@ -9,6 +9,7 @@ ghost use Rattle.compile.specs.Compiling.{compile_number, compile_asks, Fits, Ma
 use crate::build::reduce;
 use crate::chains::chain_rows;
 use crate::gaps::least_header;
+use crate::lives::Lives;
 use crate::places::Place;
 use crate::refusals::CompileRefusal;
 use policy::fields::Header;
@@ -18,12 +19,11 @@ use policy::rules::Rule;
 
 // Makes the diagram and the chain of a list without a gap, and tells how many rows it has; none, where they do
 // not fit.
-fn make_chain(rules: &[Rule], side: u8, place: &mut Place) -> Option<usize>
-    requires few { length rules.now ≤ 64 }
-    requires whole { Never rules.now None }
-    ensures { MatchOption result (Fits rules.now → ⊥) (λ rows. Made rules.now side place.new rows) }
+fn make_chain(lives: &Lives, side: u8, place: &mut Place) -> Option<usize>
+    requires { Never lives.now.rules.now None }
+    ensures { MatchOption result (Fits lives.now.rules.now → ⊥) (λ rows. Made lives.now.rules.now side place.new rows) }
 {
-    reduce(rules, &mut place.levels, &mut place.known)?;
+    reduce(lives, &mut place.levels, &mut place.known)?;
     chain_rows(&place.levels, side & 3, &mut place.rows, &mut place.lengths)?;
     Some(place.rows.len())
 }
@@ -41,10 +41,11 @@ pub fn compile<K: Kind>(
 {
     place.clear();
     check_list::<K>(rules)?;
-    if let Some(numbers) = least_header(rules, None, &mut place.known) {
+    let lives = Lives::new(rules);
+    if let Some(numbers) = least_header(&lives, None, &mut place.known) {
         return Err(CompileRefusal::Gap(Header { numbers }));
     }
-    match make_chain(rules, side, place) {
+    match make_chain(&lives, side, place) {
         Some(rows) => Ok(rows),
         None => {
             place.clear();

@@ -6,7 +6,6 @@ use crate::caches::{Known, forget, recall, remember};
 use crate::lives::{Lives, Rest, top_of};
 use crate::sets::BitSet;
 use policy::fields::FIELDS;
-use policy::rules::Rule;
 
 // The least numbers, for the fields from this one on, that the target is the first live rule to take. They
 // stand in their places of a header.
@@ -54,18 +53,16 @@ fn least(
 // The least header whose first rule met is the target; with no target, the least that meets no rule. What
 // is known before the call does not matter.
 pub(crate) fn least_header(
-    rules: &[Rule],
+    lives: &Lives,
     target: Option<usize>,
     known: &mut [Option<Known>],
 ) -> Option<[u32; FIELDS]>
-    requires { length rules.now ≤ 64 }
-    ensures { MatchOption result (Never rules.now target) (λ g. LeastOfAll rules.now target g) }
+    ensures { MatchOption result (Never lives.now.rules.now target) (λ g. LeastOfAll lives.now.rules.now target g) }
 {
     forget(known);
-    let lives = Lives::new(rules);
     let all = Rest {
         field: 0,
         live: BitSet::FULL,
     };
-    least(&lives, all, target, known)
+    least(lives, all, target, known)
 }

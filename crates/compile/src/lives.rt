@@ -88,20 +88,8 @@ fn whole_from(rules: &[Rule], field: usize, after: BitSet) -> BitSet
     set
 }
 
-// For each field, the rules that take all values of it and of all further fields; past the last field,
-// all rules.
-fn whole_sets(rules: &[Rule]) -> [BitSet; 6]
-    requires { length rules.now ≤ 64 }
-    ensures { AllWhole rules.now result }
-{
-    let mut sets = [BitSet::FULL; 6];
-    for field in (0..FIELDS).rev() {
-        sets[field] = whole_from(rules, field, sets[field + 1]);
-    }
-    sets
-}
-
-// A list of at most 64 rules, with its sets of rules that take all values from a field on.
+// A list of at most 64 rules, and for each field those that take all values of it and of all further
+// fields; past the last field, all rules.
 #[derive(Clone, Copy)]
 pub(crate) struct Lives<'a> {
     pub(crate) rules: &'a [Rule],
@@ -115,10 +103,11 @@ impl<'a> Lives<'a> {
         requires { length rules.now ≤ 64 }
         ensures { result.rules.now ≡ rules.now }
     {
-        Lives {
-            rules,
-            wholes: whole_sets(rules),
+        let mut wholes = [BitSet::FULL; 6];
+        for field in (0..FIELDS).rev() {
+            wholes[field] = whole_from(rules, field, wholes[field + 1]);
         }
+        Lives { rules, wholes }
     }
 
     // The run of values that begins at low: up to the first value at which a live rule begins or ends.

@@ -7,12 +7,12 @@ use Rattle.compile.proofs.Compiled.{failed_unfit, long_unfit, chained_fits}
 use Rattle.compile.proofs.calls.make_chain.Goals as goal
 
 pub returns-in_err-reduce : goal.returns-in_err-reduce
-returns-in_err-reduce c = rw c.from_residual.ensures (failed_unfit c.args.rules.now c.requires.whole c.in_err-reduce.ensures)
+returns-in_err-reduce c = rw c.from_residual.ensures (failed_unfit c.args.lives.now.rules.now c.requires c.in_err-reduce.ensures)
 
 pub returns-in_err-chain_rows : goal.returns-in_err-chain_rows
 returns-in_err-chain_rows c =
     rw c.from_residual-in_err-chain_rows.ensures
-    (long_unfit c.args.rules.now (diagram_of c.reduce.new.levels) (bit_and c.args.side 3) c.in_ok-reduce.ensures c.in_err-chain_rows.ensures)
+    (long_unfit c.args.lives.now.rules.now (diagram_of c.reduce.new.levels) (bit_and c.args.side 3) c.in_ok-reduce.ensures c.in_err-chain_rows.ensures)
 
 pub returns : goal.returns
 returns c =
