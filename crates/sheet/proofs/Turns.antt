@@ -83,7 +83,7 @@ pub record Turn {A : Type 0} (line : List ℕ → ℕ → ℕ → Lined A) (s : 
   pub so_far : lines_at line s (min (length was) 64) 1 0 ≡ prefixed (take n is) (lines_at line s (min (length was) 64 - n) (n + 1) at)
 
 -- How a turn ends.
-module _ {A : Type 0} (line : List ℕ → ℕ → ℕ → Lined A) (s : List ℕ) (was is : List A) (n at : ℕ) (turn : Turn line s was is n at) (few : n ≤ min (length was) 64) (long : length is ≡ length was) where
+module _ {A : Type 0} {line : List ℕ → ℕ → ℕ → Lined A} {s : List ℕ} {was is : List A} {n at : ℕ} (turn : Turn line s was is n at) (few : n ≤ min (length was) 64) (long : length is ≡ length was) where
   ends : (a : Answer A) → lines_at line s (min (length was) 64 - n) (n + 1) at ≡ a → lines_at line s (min (length was) 64) 1 0 ≡ prefixed (take n is) a
   ends a h = turn.so_far ∙ ap (prefixed (take n is)) h
 

@@ -21,6 +21,7 @@ impl<'a> Reader<'a> {
     ghost use Rattle.sheet.specs.Readings.{dotted_rest};
     ghost use Rattle.sheet.specs.Sheets.{up_to_feed, HasFeed, LacksFeed, after_feed};
 
+    // A reader at the first byte of the sheet.
     pub fn new(sheet: &'a [u8]) -> Reader<'a>
         ensures sheet { result.sheet.now ≡ sheet.now }
         ensures at { result.at ≡ 0 }
