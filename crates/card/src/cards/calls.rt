@@ -111,9 +111,7 @@ impl<S: Store> Card<S> {
     {
         self.admit(side, SIDES)?;
         let x = self.sides[side];
-        let Some(state) = next_state(x.state, clearing_change(x.held)) else {
-            return Err(Refusal::NotSetAside);
-        };
+        let state = next_state(x.state, clearing_change(x.held)).ok_or(Refusal::NotSetAside)?;
         if walked(&self.seats, side) {
             return Err(Refusal::LookupOpen);
         }
@@ -133,9 +131,7 @@ impl<S: Store> Card<S> {
         if self.seats[seat].is_some() {
             return Err(Refusal::NotFree);
         }
-        let Some(side) = self.current else {
-            return Err(Refusal::NothingInForce);
-        };
+        let side = self.current.ok_or(Refusal::NothingInForce)?;
         if !header.fits() {
             return Err(Refusal::HeaderTooWide);
         }
