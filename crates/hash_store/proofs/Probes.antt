@@ -1,12 +1,14 @@
 -- What the search for a key says of the rows, and what a write leaves.
-use Rattle.std.proofs.Common.{◌≡◌, ℕ, zero, suc, ◌+◌, ◌<◌, ◌≤◌, true, false, cond, eqb, ◌≢◌, ◌⊎◌, List, [], ◌++◌, length, get_or, replicate, Some, None, Option, is_some, sym, refl, ap, ◌∙◌, subst, inl, inr, ⊎_elim, arith}
+use Rattle.std.proofs.Common.{◌≡◌, ℕ, zero, suc, ◌+◌, ◌<◌, ◌≤◌, true, false, cond, eqb, ◌≢◌, ◌⊎◌, List, [], ◌++◌, length, min, get_or, set, replicate, Some, None, Option, is_some, sym, refl, ap, ◌∙◌, subst, inl, inr, ⊎_elim, arith}
 use Rattle.std.proofs.lemmas.Bool.{eq-eqb, ne_eqb, cases_eq, cases_Bool, cases_lt, both_ways}
 use Rattle.std.proofs.lemmas.Grind.{merely}
-use Rattle.std.proofs.lemmas.List.{get_or_append_left, get_or-replicate}
+use Rattle.std.proofs.lemmas.List.{get_or_append_left, get_or-replicate, get_or-set_same, get_or-set_other, length-set}
 use Rattle.store.specs.Rows.{find}
 use Rattle.store.specs.declared.row.Row.{Row}
-use Rattle.hash_store.specs.declared.probe.Spot.TheVariants.{Free}
-use Rattle.hash_store.specs.Cells.{cell_at, rows_of, row_of, Sound, home_of, home_lt, at, Apart, Unpassed, Seen, Says}
+use Rattle.store.specs.Meaning.{Added}
+use Rattle.hash_store.specs.declared.probe.Spot.{Spot}
+use Rattle.hash_store.specs.declared.probe.Spot.TheVariants.{Found, Free, Nowhere}
+use Rattle.hash_store.specs.Cells.{cell_at, answer_at, rows_of, row_of, Sound, home_of, home_lt, at, Apart, Unpassed, Seen, Says}
 use Rattle.hash_store.specs.Helds.{rows_used, rows_free, rows_within, find_nowhere}
 use Rattle.hash_store.proofs.Around.{at_inj, dist}
 
@@ -254,3 +256,49 @@ sound_none f m free =
 pub cleared : (cs ys : List (Option Row)) (j : ℕ) → ys ≡ replicate (length ys) None → j < length ys → is_some (cell_at (ys ++ cs) j) ≡ false
 cleared cs ys j e l =
     ap is_some (get_or_append_left ys cs None j l ∙ ap (λ xs. get_or xs j None) e ∙ get_or-replicate (length ys) j None None l)
+
+-- What a search says is what the rows hold for the key.
+pub finds_so : (f : ℕ → Option Row) (m n q : ℕ) (o : Spot) → Sound f m n → Says f m q o → find (rows_of f m) q ≡ answer_at f o
+finds_so f m n q (Found i) k s = find_somewhere f m q i k.apart s.0 s.1 s.2
+finds_so f m n q (Free i) k s = miss_free f m q s (k.reach i s.3 s.4)
+finds_so f m n q Nowhere k s = miss_round f m q s
+
+-- How many of the cells may hold rows.
+abbrev usable : List (Option Row) → ℕ
+usable cs = min (length cs) 4096
+
+-- A write of the row x into the free cell i of a list of cells.
+module _ (cs : List (Option Row)) (n i : ℕ) (x : Row) (k : Sound (cell_at cs) (usable cs) n) (s : Says (cell_at cs) (usable cs) x.key (Free i)) where
+  abbrev f : ℕ → Option Row
+  f = cell_at cs
+
+  abbrev g : ℕ → Option Row
+  g = cell_at (set cs i (Some x))
+
+  same : g i ≡ Some x
+  same = get_or-set_same cs i (Some x) None (omega (arith, s.3))
+
+  other : (j : ℕ) → j ≢ i → g j ≡ f j
+  other j ne = get_or-set_other cs i j (Some x) None ne
+
+  long : usable (set cs i (Some x)) ≡ usable cs
+  long = ap (λ j. min j 4096) (length-set cs i (Some x))
+
+  pub wrote_room : length (rows_of f (usable cs)) < usable cs
+  wrote_room = put_room f g (usable cs) n i x same other k s
+
+  pub wrote_sound : Sound g (usable (set cs i (Some x))) (n + 1)
+  wrote_sound = let P : ℕ → Type 0 = λ m. Sound g m (n + 1) in subst P (sym long) (put_sound f g (usable cs) n i x same other k s)
+
+  pub wrote_added : (t : ℕ)
+      → Added (record { rows = rows_of f (usable cs); capacity = usable cs; tally = t }) x
+      (record { rows = rows_of g (usable (set cs i (Some x))); capacity = usable (set cs i (Some x)); tally = t })
+  wrote_added t =
+      let F : ℕ → Type 0 = λ m. (p : ℕ) → find (rows_of g m) p ≡ cond (eqb p x.key) (Some x.result) (find (rows_of f (usable cs)) p) in
+      let H : ℕ → Type 0 = λ m. length (rows_of g m) ≡ length (rows_of f (usable cs)) + 1 in
+      record {
+        finds = subst F (sym long) (put_finds f g (usable cs) n i x same other k s);
+        held = subst H (sym long) (put_more f g (usable cs) n i x same other k s);
+        capacity = long;
+        tally = refl;
+      }

@@ -76,6 +76,12 @@ Says f m q (Found i) = (i < m) × (is_some (f i) ≡ true) × ((row_of (f i)).ke
 Says f m q (Free i) = (d : ℕ) × (d < m) × (i ≡ at m (home_of q m) d) × (i < m) × (is_some (f i) ≡ false) × Seen f m q d
 Says f m q Nowhere = Seen f m q m
 
+-- What a search answers that ended so.
+abbrev pub answer_at : (ℕ → Option Row) → Spot → Option ℕ
+answer_at f (Found i) = Some (row_of (f i)).result
+answer_at f (Free i) = None
+answer_at f Nowhere = None
+
 -- Cells in order hold n rows and no key twice. Each row is found from its key's home on: no row stands
 -- beyond a free cell. And there is a cell that no row stands beyond, even where none is free: then it
 -- is the cell that was filled last.
