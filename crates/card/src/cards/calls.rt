@@ -76,15 +76,11 @@ impl<S: Store> Card<S> {
     }
 
     // The state of a side, and how many rows of it the store holds.
-    pub fn read_side(&self, side: usize) -> Result<SideReading, Refusal>
+    pub fn read_side(&self, side: usize) -> Result<Side, Refusal>
         ensures { Right (shown self.now) (side_read side result) }
     {
         self.admit(side, SIDES)?;
-        let x = self.sides[side];
-        Ok(SideReading {
-            state: x.state,
-            rows: x.held,
-        })
+        Ok(self.sides[side])
     }
 
     // The searches of a seat's open look-up, 0 where the seat is free.
