@@ -371,10 +371,10 @@ module _ (cs ds : List (Option Row)) (n i q : ℕ) (k : Sound (cell_at cs) (min 
   removed = let P : ℕ → Type 0 = λ m. Ready (cell_at cs) m i → Removed (cell_at cs) (cell_at ds) m i in subst P all taken
 
   pub erased_some : 0 < n
-  erased_some = omega (arith, removed_fewer (cell_at cs) (cell_at ds) (min (length cs) 4096) n i q k s.0 s.1 s.2 removed, k.counted)
+  erased_some = omega (arith, removed_fewer (cell_at cs) (cell_at ds) (min (length cs) 4096) n i q k s.within s.used s.has removed, k.counted)
 
   pub erased_sound : Sound (cell_at ds) (min (length ds) 4096) (n - 1)
-  erased_sound = let P : ℕ → Type 0 = λ m. Sound (cell_at ds) m (n - 1) in subst P (sym long) (removed_sound (cell_at cs) (cell_at ds) (min (length cs) 4096) n i q k s.0 s.1 s.2 removed)
+  erased_sound = let P : ℕ → Type 0 = λ m. Sound (cell_at ds) m (n - 1) in subst P (sym long) (removed_sound (cell_at cs) (cell_at ds) (min (length cs) 4096) n i q k s.within s.used s.has removed)
 
   pub erased_removed : (t : ℕ)
       → Gone (record { rows = rows_of (cell_at cs) (min (length cs) 4096); capacity = min (length cs) 4096; tally = t }) q
@@ -383,8 +383,8 @@ module _ (cs ds : List (Option Row)) (n i q : ℕ) (k : Sound (cell_at cs) (min 
       let F : ℕ → Type 0 = λ m. (p : ℕ) → find (rows_of (cell_at ds) m) p ≡ cond (eqb p q) None (find (rows_of (cell_at cs) (min (length cs) 4096)) p) in
       let H : ℕ → Type 0 = λ m. length (rows_of (cell_at ds) m) + 1 ≡ length (rows_of (cell_at cs) (min (length cs) 4096)) in
       record {
-        finds = subst F (sym long) (removed_finds (cell_at cs) (cell_at ds) (min (length cs) 4096) n i q k s.0 s.1 s.2 removed);
-        held = subst H (sym long) (removed_fewer (cell_at cs) (cell_at ds) (min (length cs) 4096) n i q k s.0 s.1 s.2 removed);
+        finds = subst F (sym long) (removed_finds (cell_at cs) (cell_at ds) (min (length cs) 4096) n i q k s.within s.used s.has removed);
+        held = subst H (sym long) (removed_fewer (cell_at cs) (cell_at ds) (min (length cs) 4096) n i q k s.within s.used s.has removed);
         capacity = long;
         tally = refl;
       }

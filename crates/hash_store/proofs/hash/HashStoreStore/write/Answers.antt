@@ -40,4 +40,4 @@ returns-in-Free-clause-written c =
 pub returns-in-Free-clause-frame : goal.returns-in-Free-clause-frame
 returns-in-Free-clause-frame c =
     let s = c.args.self.now in
-    ap (λ es. (s.cells.ghost_name, es)) (drop-set-lt 4096 s.cells.now c.in-Free.i (Some c.args.row) (omega (arith, c.in-Free.ensures.says.3)))
+    ap (λ es. (s.cells.ghost_name, es)) (drop-set-lt 4096 s.cells.now c.in-Free.i (Some c.args.row) (omega (arith, c.in-Free.ensures.says.ends.within)))
