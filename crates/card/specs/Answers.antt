@@ -5,11 +5,11 @@ use Rattle.card.specs.declared.refusals.Refusal.{Refusal}
 use Rattle.card.specs.declared.events.Call.TheVariants.{ReadSide, ReadSeat, Clear, LookUp}
 use Rattle.card.specs.declared.events.Event.{Event}
 use Rattle.card.specs.declared.events.Event.TheVariants.{SideRead, SeatRead, Cleared, Began, Refused}
-use Rattle.card.specs.declared.cards.SideReading.{SideReading}
+use Rattle.card.specs.declared.cards.Side.{Side}
 use Rattle.card.specs.declared.tickets.LookupTicket.{LookupTicket}
 
-abbrev pub side_read : ℕ → Result SideReading Refusal → Event
-side_read s (Ok x) = SideRead s x.state x.rows
+abbrev pub side_read : ℕ → Result Side Refusal → Event
+side_read s (Ok x) = SideRead s x.state x.held
 side_read s (Err r) = Refused (ReadSide s) r
 
 abbrev pub seat_read : ℕ → Result ℕ Refusal → Event

@@ -8,6 +8,7 @@ use crate::tickets::LookupTicket;
 pub fn put(tickets: &mut [Option<LookupTicket>], place: usize, ticket: Option<LookupTicket>)
     ensures { tickets.new ≡ slice_set tickets.old place ticket }
 {
+    // by index: what a write through `get_mut` leaves in the box finds no proof
     if place < tickets.len() {
         tickets[place] = ticket;
     }

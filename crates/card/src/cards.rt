@@ -10,7 +10,7 @@ pub const SIDES: usize = 3;
 
 pub const SEATS: usize = 8;
 
-#[derive(Clone, Copy)]
+#[derive(Clone, Copy, PartialEq, Eq, Debug)]
 pub struct Side {
     pub state: SideState,
     // how many rows of its chain the store holds
@@ -38,11 +38,4 @@ pub struct Card<S> {
     // the side in force
     current: Option<usize>,
     rows: Vec<Row>,
-}
-
-// What a side is read as.
-#[derive(Clone, Copy, PartialEq, Eq, Debug)]
-pub struct SideReading {
-    pub state: SideState,
-    pub rows: u16,
 }

@@ -41,7 +41,7 @@ fn run_one<S: Store>(card: &mut Card<S>, call: Call, tickets: &mut [Option<Looku
 {
     match call {
         Call::ReadSide(side) => match card.read_side(side) {
-            Ok(x) => Event::SideRead(side, x.state, x.rows),
+            Ok(x) => Event::SideRead(side, x.state, x.held),
             Err(refusal) => Event::Refused(call, refusal),
         },
         Call::ReadSeat(seat) => match card.read_seat(seat) {

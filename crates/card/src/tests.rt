@@ -1,5 +1,5 @@
 // Examples of calls on a card over a flat store.
-use crate::cards::{Card, SideReading};
+use crate::cards::{Card, Side};
 use crate::events::{Call, Event};
 use crate::refusals::Refusal;
 use crate::runs::run_new;
@@ -20,9 +20,9 @@ fn new_card_reads_free(rt: HostRuntime) -> Result<(), Fail> {
     };
     assert_eq!(rt;
         card.read_side(2),
-        Ok(SideReading {
+        Ok(Side {
             state: SideState::Free,
-            rows: 0,
+            held: 0,
         })
     );
     assert_eq!(rt; card.read_side(3), Err(Refusal::OutOfRange));

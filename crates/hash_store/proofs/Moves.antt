@@ -1,12 +1,14 @@
 -- Taking a row out: the rows that pass its cell move back, one after the other.
-use Rattle.std.proofs.Common.{◌≡◌, ℕ, ◌+◌, ◌-◌, ◌<◌, ◌≤◌, true, false, cond, eqb, ◌≢◌, ◌⊎◌, length, Some, None, sym, refl, ap, is_some, Option, ◌∙◌, subst, ⊎_elim, arith}
+use Rattle.std.proofs.Common.{min, List, ◌≡◌, ℕ, ◌+◌, ◌-◌, ◌<◌, ◌≤◌, true, false, cond, eqb, ◌≢◌, ◌⊎◌, length, Some, None, sym, refl, ap, is_some, Option, ◌∙◌, subst, ⊎_elim, arith}
 use Rattle.std.proofs.lemmas.Bool.{eq-eqb, ne_eqb, cases_eq, cases_lt, cases_order, both_ways}
 use Rattle.std.proofs.Math.Logic.{∥∥₁_elim, ∥∥₁_prop}
 use Rattle.std.proofs.lemmas.Grind.{merely}
 use Rattle.std.proofs.Props.{props}
 use Rattle.store.specs.Rows.{find}
 use Rattle.store.specs.declared.row.Row.{Row}
-use Rattle.hash_store.specs.Cells.{rows_of, row_of, Sound, home_of, home_lt, at, Apart, Unpassed}
+use Rattle.store.specs.Meaning.{Removed as Gone}
+use Rattle.hash_store.specs.declared.probe.Spot.TheVariants.{Found}
+use Rattle.hash_store.specs.Cells.{cell_at, Says, rows_of, row_of, Sound, home_of, home_lt, at, Apart, Unpassed}
 use Rattle.hash_store.specs.Helds.{find_nowhere}
 use Rattle.hash_store.specs.Shifts.{Ready, Clear, Settled, Removed}
 use Rattle.hash_store.proofs.Around.{at_zero, at_lt, at_inj, at_on, at_diff, at_back, dist}
@@ -359,3 +361,30 @@ module _ (f g : ℕ → Option Row) (m n i q : ℕ) (k : Sound f m n) (here : i 
       ∙ sym (find_nowhere f m p b))
       (cell_cases f p m)))
       (cases_eq p q))
+
+-- Taking the row of the key q out of the cell i of a list of cells.
+module _ (cs ds : List (Option Row)) (n i q : ℕ) (k : Sound (cell_at cs) (min (length cs) 4096) n) (s : Says (cell_at cs) (min (length cs) 4096) q (Found i)) (same : length ds ≡ length cs) (m : ℕ) (all : m ≡ min (length cs) 4096) (taken : Ready (cell_at cs) m i → Removed (cell_at cs) (cell_at ds) m i) where
+  long : min (length ds) 4096 ≡ min (length cs) 4096
+  long = ap (λ j. min j 4096) same
+
+  removed : Ready (cell_at cs) (min (length cs) 4096) i → Removed (cell_at cs) (cell_at ds) (min (length cs) 4096) i
+  removed = let P : ℕ → Type 0 = λ m. Ready (cell_at cs) m i → Removed (cell_at cs) (cell_at ds) m i in subst P all taken
+
+  pub erased_some : 0 < n
+  erased_some = omega (arith, removed_fewer (cell_at cs) (cell_at ds) (min (length cs) 4096) n i q k s.within s.used s.has removed, k.counted)
+
+  pub erased_sound : Sound (cell_at ds) (min (length ds) 4096) (n - 1)
+  erased_sound = let P : ℕ → Type 0 = λ m. Sound (cell_at ds) m (n - 1) in subst P (sym long) (removed_sound (cell_at cs) (cell_at ds) (min (length cs) 4096) n i q k s.within s.used s.has removed)
+
+  pub erased_removed : (t : ℕ)
+      → Gone (record { rows = rows_of (cell_at cs) (min (length cs) 4096); capacity = min (length cs) 4096; tally = t }) q
+      (record { rows = rows_of (cell_at ds) (min (length ds) 4096); capacity = min (length ds) 4096; tally = t })
+  erased_removed t =
+      let F : ℕ → Type 0 = λ m. (p : ℕ) → find (rows_of (cell_at ds) m) p ≡ cond (eqb p q) None (find (rows_of (cell_at cs) (min (length cs) 4096)) p) in
+      let H : ℕ → Type 0 = λ m. length (rows_of (cell_at ds) m) + 1 ≡ length (rows_of (cell_at cs) (min (length cs) 4096)) in
+      record {
+        finds = subst F (sym long) (removed_finds (cell_at cs) (cell_at ds) (min (length cs) 4096) n i q k s.within s.used s.has removed);
+        held = subst H (sym long) (removed_fewer (cell_at cs) (cell_at ds) (min (length cs) 4096) n i q k s.within s.used s.has removed);
+        capacity = long;
+        tally = refl;
+      }

@@ -1,12 +1,14 @@
 -- What the search for a key says of the rows, and what a write leaves.
-use Rattle.std.proofs.Common.{◌≡◌, ℕ, zero, suc, ◌+◌, ◌<◌, ◌≤◌, true, false, cond, eqb, ◌≢◌, ◌⊎◌, List, [], ◌++◌, length, get_or, replicate, Some, None, Option, is_some, sym, refl, ap, ◌∙◌, subst, inl, inr, ⊎_elim, arith}
+use Rattle.std.proofs.Common.{◌≡◌, ℕ, zero, suc, ◌+◌, ◌<◌, ◌≤◌, true, false, cond, eqb, ◌≢◌, ◌⊎◌, List, [], ◌++◌, length, min, get_or, set, replicate, Some, None, Option, is_some, sym, refl, ap, ◌∙◌, subst, inl, inr, ⊎_elim, arith}
 use Rattle.std.proofs.lemmas.Bool.{eq-eqb, ne_eqb, cases_eq, cases_Bool, cases_lt, both_ways}
 use Rattle.std.proofs.lemmas.Grind.{merely}
-use Rattle.std.proofs.lemmas.List.{get_or_append_left, get_or-replicate}
+use Rattle.std.proofs.lemmas.List.{get_or_append_left, get_or-replicate, get_or-set_same, get_or-set_other, length-set}
 use Rattle.store.specs.Rows.{find}
 use Rattle.store.specs.declared.row.Row.{Row}
-use Rattle.hash_store.specs.declared.probe.Spot.TheVariants.{Free}
-use Rattle.hash_store.specs.Cells.{cell_at, rows_of, row_of, Sound, home_of, home_lt, at, Apart, Unpassed, Seen, Says}
+use Rattle.store.specs.Meaning.{Added}
+use Rattle.hash_store.specs.declared.probe.Spot.{Spot}
+use Rattle.hash_store.specs.declared.probe.Spot.TheVariants.{Found, Free, Nowhere}
+use Rattle.hash_store.specs.Cells.{cell_at, answer_at, rows_of, row_of, Sound, home_of, home_lt, at, Apart, Unpassed, Seen, Says}
 use Rattle.hash_store.specs.Helds.{rows_used, rows_free, rows_within, find_nowhere}
 use Rattle.hash_store.proofs.Around.{at_inj, dist}
 
@@ -112,19 +114,19 @@ module _ (f : ℕ → Option Row) (m q : ℕ) where
   absent_free {i} s r j l u k =
       let e = dist m (home_of q m) j (home_lt q m (omega arith)) l in
       ⊎_elim
-      (λ (a : e.0 < s.0). let P : ℕ → Type 0 = λ i. (row_of (f i)).key ≡ q in (s.5 e.0 a).1 (subst P (sym e.2) k))
-      (λ (a : s.0 ≤ e.0).
+      (λ (a : e.0 < s.ends.way). let P : ℕ → Type 0 = λ i. (row_of (f i)).key ≡ q in (s.ends.seen e.0 a).1 (subst P (sym e.2) k))
+      (λ (a : s.ends.way ≤ e.0).
       ⊎_elim
-      (λ (same : s.0 ≡ e.0).
+      (λ (same : s.ends.way ≡ e.0).
       let P : ℕ → Type 0 = λ x. i ≡ at m (home_of q m) x in
       let Q : ℕ → Type 0 = λ x. is_some (f x) ≡ false in
-      both_ways (is_some (f j)) (subst Q (subst P same s.2 ∙ e.2) s.4) u)
-      (λ (other : s.0 ≡ e.0 → ⊥).
+      both_ways (is_some (f j)) (subst Q (subst P same s.ends.place ∙ e.2) s.free) u)
+      (λ (other : s.ends.way ≡ e.0 → ⊥).
       let P : ℕ → Type 0 = λ x. at m (home_of x m) e.0 ≡ j in
-      let Q : ℕ → Type 0 = λ x. at m (home_of x m) s.0 ≡ i in
-      r j e.0 s.0 (l, u, e.1, subst P (sym k) e.2, omega arith, subst Q (sym k) (sym s.2)))
-      (cases_eq s.0 e.0))
-      (cases_lt e.0 s.0)
+      let Q : ℕ → Type 0 = λ x. at m (home_of x m) s.ends.way ≡ i in
+      r j e.0 s.ends.way (l, u, e.1, subst P (sym k) e.2, omega arith, subst Q (sym k) (sym s.ends.place)))
+      (cases_eq s.ends.way e.0))
+      (cases_lt e.0 s.ends.way)
 
   pub miss_round : Seen f m q m → find (rows_of f m) q ≡ None
   miss_round s = find_nowhere f m q (absent_round s)
@@ -147,10 +149,10 @@ module _ (f g : ℕ → Option Row) (m n i : ℕ) (x : Row) (same : g i ≡ Some
   other_key j ne = ap (λ c. (row_of c).key) (other j ne)
 
   unpassed : Unpassed f m i
-  unpassed = k.reach i s.3 s.4
+  unpassed = k.reach i s.ends.within s.free
 
   pub put_more : length (rows_of g m) ≡ length (rows_of f m) + 1
-  put_more = rows_more f g m i s.3 other_used s.4 same_used
+  put_more = rows_more f g m i s.ends.within other_used s.free same_used
 
   pub put_room : length (rows_of f m) < m
   put_room = omega (arith, put_more, rows_within g m)
@@ -175,7 +177,7 @@ module _ (f g : ℕ → Option Row) (m n i : ℕ) (x : Row) (same : g i ≡ Some
       (cases_eq a i)
 
   -- Where no old row stands beyond the cell z, and the new row does not either, none does.
-  put_unpassed : (z : ℕ) → Unpassed f m z → ((e : ℕ) → e < s.0 → at m (home_of x.key m) e ≡ z → ⊥) → Unpassed g m z
+  put_unpassed : (z : ℕ) → Unpassed f m z → ((e : ℕ) → e < s.ends.way → at m (home_of x.key m) e ≡ z → ⊥) → Unpassed g m z
   put_unpassed z old new j d e w =
       let P : ℕ → Type 0 = λ y. at m (home_of y m) d ≡ j in
       let Q : ℕ → Type 0 = λ y. at m (home_of y m) e ≡ z in
@@ -183,7 +185,7 @@ module _ (f g : ℕ → Option Row) (m n i : ℕ) (x : Row) (same : g i ≡ Some
       (λ (ji : j ≡ i).
       let K : ℕ → Type 0 = λ y. (row_of (g y)).key ≡ x.key in
       let kk : (row_of (g j)).key ≡ x.key = subst K (sym ji) same_key in
-      let dd : d ≡ s.0 = at_inj m (home_of x.key m) d s.0 (home_lt x.key m (omega (arith, w.2))) w.2 s.1 (subst P kk w.3 ∙ ji ∙ s.2) in
+      let dd : d ≡ s.ends.way = at_inj m (home_of x.key m) d s.ends.way (home_lt x.key m (omega (arith, w.2))) w.2 s.ends.way_lt (subst P kk w.3 ∙ ji ∙ s.ends.place) in
       new e (omega (arith, w.4)) (subst Q kk w.5))
       (λ (ji : j ≢ i).
       let kk = other_key j ji in
@@ -195,27 +197,27 @@ module _ (f g : ℕ → Option Row) (m n i : ℕ) (x : Row) (same : g i ≡ Some
       let zi : z ≢ i = λ e. let P : ℕ → Type 0 = λ y. is_some (g y) ≡ false in both_ways (is_some (g i)) (subst P e free) same_used in
       let was : is_some (f z) ≡ false = sym (other_used z zi) ∙ free in
       put_unpassed z (k.reach z l was)
-      (λ e h p. let P : ℕ → Type 0 = λ y. is_some (f y) ≡ true in both_ways (is_some (f z)) was (subst P p (s.5 e h).0))
+      (λ e h p. let P : ℕ → Type 0 = λ y. is_some (f y) ≡ true in both_ways (is_some (f z)) was (subst P p (s.ends.seen e h).0))
 
   put_cut : Unpassed g m i
   put_cut =
       put_unpassed i unpassed
-      (λ e h p. let P : ℕ → Type 0 = λ y. is_some (f y) ≡ true in both_ways (is_some (f i)) s.4 (subst P p (s.5 e h).0))
+      (λ e h p. let P : ℕ → Type 0 = λ y. is_some (f y) ≡ true in both_ways (is_some (f i)) s.free (subst P p (s.ends.seen e h).0))
 
   pub put_sound : Sound g m (n + 1)
-  put_sound = record { counted = omega (arith, put_more, k.counted); apart = put_apart; reach = put_reach; cut = λ pos. merely (i, s.3, put_cut) }
+  put_sound = record { counted = omega (arith, put_more, k.counted); apart = put_apart; reach = put_reach; cut = λ pos. merely (i, s.ends.within, put_cut) }
 
   pub put_finds : (q : ℕ) → find (rows_of g m) q ≡ cond (eqb q x.key) (Some x.result) (find (rows_of f m) q)
   put_finds q =
       let res : Option Row → Option ℕ = λ c. Some (row_of c).result in
       ⊎_elim
-      (λ (e : q ≡ x.key). rw (eq-eqb q x.key e) (find_somewhere g m q i put_apart s.3 same_used (same_key ∙ sym e) ∙ ap res same))
+      (λ (e : q ≡ x.key). rw (eq-eqb q x.key e) (find_somewhere g m q i put_apart s.ends.within same_used (same_key ∙ sym e) ∙ ap res same))
       (λ (ne : q ≡ x.key → ⊥).
       rw (ne_eqb q x.key ne)
       (⊎_elim
       (λ (h : (j : ℕ) × (j < m) × (is_some (f j) ≡ true) × ((row_of (f j)).key ≡ q)).
       let P : ℕ → Type 0 = λ z. is_some (f z) ≡ true in
-      let ji : h.0 ≢ i = λ a. both_ways (is_some (f i)) s.4 (subst P a h.2) in
+      let ji : h.0 ≢ i = λ a. both_ways (is_some (f i)) s.free (subst P a h.2) in
       find_somewhere g m q h.0 put_apart h.1 (other_used h.0 ji ∙ h.2) (other_key h.0 ji ∙ h.3)
       ∙ ap res (other h.0 ji)
       ∙ sym (find_somewhere f m q h.0 k.apart h.1 h.2 h.3))
@@ -254,3 +256,49 @@ sound_none f m free =
 pub cleared : (cs ys : List (Option Row)) (j : ℕ) → ys ≡ replicate (length ys) None → j < length ys → is_some (cell_at (ys ++ cs) j) ≡ false
 cleared cs ys j e l =
     ap is_some (get_or_append_left ys cs None j l ∙ ap (λ xs. get_or xs j None) e ∙ get_or-replicate (length ys) j None None l)
+
+-- What a search says is what the rows hold for the key.
+pub finds_so : (f : ℕ → Option Row) (m n q : ℕ) (o : Spot) → Sound f m n → Says f m q o → find (rows_of f m) q ≡ answer_at f o
+finds_so f m n q (Found i) k s = find_somewhere f m q i k.apart s.within s.used s.has
+finds_so f m n q (Free i) k s = miss_free f m q s (k.reach i s.ends.within s.free)
+finds_so f m n q Nowhere k s = miss_round f m q s
+
+-- How many of the cells may hold rows.
+abbrev usable : List (Option Row) → ℕ
+usable cs = min (length cs) 4096
+
+-- A write of the row x into the free cell i of a list of cells.
+module _ (cs : List (Option Row)) (n i : ℕ) (x : Row) (k : Sound (cell_at cs) (usable cs) n) (s : Says (cell_at cs) (usable cs) x.key (Free i)) where
+  abbrev f : ℕ → Option Row
+  f = cell_at cs
+
+  abbrev g : ℕ → Option Row
+  g = cell_at (set cs i (Some x))
+
+  same : g i ≡ Some x
+  same = get_or-set_same cs i (Some x) None (omega (arith, s.ends.within))
+
+  other : (j : ℕ) → j ≢ i → g j ≡ f j
+  other j ne = get_or-set_other cs i j (Some x) None ne
+
+  long : usable (set cs i (Some x)) ≡ usable cs
+  long = ap (λ j. min j 4096) (length-set cs i (Some x))
+
+  pub wrote_room : length (rows_of f (usable cs)) < usable cs
+  wrote_room = put_room f g (usable cs) n i x same other k s
+
+  pub wrote_sound : Sound g (usable (set cs i (Some x))) (n + 1)
+  wrote_sound = let P : ℕ → Type 0 = λ m. Sound g m (n + 1) in subst P (sym long) (put_sound f g (usable cs) n i x same other k s)
+
+  pub wrote_added : (t : ℕ)
+      → Added (record { rows = rows_of f (usable cs); capacity = usable cs; tally = t }) x
+      (record { rows = rows_of g (usable (set cs i (Some x))); capacity = usable (set cs i (Some x)); tally = t })
+  wrote_added t =
+      let F : ℕ → Type 0 = λ m. (p : ℕ) → find (rows_of g m) p ≡ cond (eqb p x.key) (Some x.result) (find (rows_of f (usable cs)) p) in
+      let H : ℕ → Type 0 = λ m. length (rows_of g m) ≡ length (rows_of f (usable cs)) + 1 in
+      record {
+        finds = subst F (sym long) (put_finds f g (usable cs) n i x same other k s);
+        held = subst H (sym long) (put_more f g (usable cs) n i x same other k s);
+        capacity = long;
+        tally = refl;
+      }

@@ -25,23 +25,45 @@ module _ (f : ℕ → Option Row) (m q h : ℕ) (hl : h < m) where
 
   module _ (home : h ≡ home_of q m) where
     -- The first part ends at i.
-    pub first : (i : ℕ) → Stops f q h m i → Ends f m q i
+    first : (i : ℕ) → Stops f q h m i → Ends f m q i
     first i s =
-        let P : ℕ → Type 0 = λ x. (d : ℕ) × (d < m) × (i ≡ at m x d) × (i < m) × (is_some (f i) ≡ true → (row_of (f i)).key ≡ q) × SeenFrom f m q x d in
         let d = i - h in
+        let P : ℕ → Type 0 = λ x. i ≡ at m x d in
+        let Q : ℕ → Type 0 = λ x. SeenFrom f m q x d in
         let there : h + d ≡ i = omega (arith, s.low) in
-        subst P home (d, omega (arith, s.high), sym (at_near m h d (omega (arith, s.high)) ∙ there), s.high, s.has, near i (omega (arith, s.high)) s.before)
+        record {
+          way = d;
+          way_lt = omega (arith, s.high);
+          place = subst P home (sym (at_near m h d (omega (arith, s.high)) ∙ there));
+          within = s.high;
+          has = s.has;
+          seen = subst Q home (near i (omega (arith, s.high)) s.before);
+        }
 
     -- The second part ends, or all cells were passed.
-    pub second : (o : Option ℕ) → Passed f q h m → MatchOption o (Passed f q 0 h) (λ i. Stops f q 0 h i) → MatchOption o (Seen f m q m) (λ i. Ends f m q i)
+    second : (o : Option ℕ) → Passed f q h m → MatchOption o (Passed f q 0 h) (λ i. Stops f q 0 h i) → MatchOption o (Seen f m q m) (λ i. Ends f m q i)
     second None p r =
         let P : ℕ → Type 0 = λ x. SeenFrom f m q x m in
         let Q : ℕ → Type 0 = λ d. SeenFrom f m q h d in
         let all : h + m - h ≡ m = omega arith in
         subst P home (subst Q all (far h (omega arith) p r))
     second (Some i) p r =
-        let P : ℕ → Type 0 = λ x. (d : ℕ) × (d < m) × (i ≡ at m x d) × (i < m) × (is_some (f i) ≡ true → (row_of (f i)).key ≡ q) × SeenFrom f m q x d in
         let d = i + m - h in
+        let P : ℕ → Type 0 = λ x. i ≡ at m x d in
+        let Q : ℕ → Type 0 = λ x. SeenFrom f m q x d in
         let there : h + d - m ≡ i = omega arith in
-        subst P home
-        (d, omega (arith, r.high), sym (at_far m h d (omega (arith, r.high)) ∙ there), omega (arith, r.high), r.has, far i (omega (arith, r.high)) p r.before)
+        record {
+          way = d;
+          way_lt = omega (arith, r.high);
+          place = subst P home (sym (at_far m h d (omega (arith, r.high)) ∙ there));
+          within = omega (arith, r.high);
+          has = r.has;
+          seen = subst Q home (far i (omega (arith, r.high)) p r.before);
+        }
+
+    -- The first part ends, or else the second.
+    pub either : (o r : Option ℕ) → MatchOption o (Passed f q h m) (λ i. Stops f q h m i)
+        → MatchOption o (MatchOption r (Passed f q 0 h) (λ i. Stops f q 0 h i)) (λ i. r ≡ Some i)
+        → MatchOption r (Seen f m q m) (λ i. Ends f m q i)
+    either None r p s = second r p s
+    either (Some i) r p s = let P : Option ℕ → Type 0 = λ o. MatchOption o (Seen f m q m) (λ i. Ends f m q i) in subst P (sym s) (first i p)

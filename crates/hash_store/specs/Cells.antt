@@ -65,16 +65,38 @@ pub record Stops (f : ℕ → Option Row) (q a b i : ℕ) : Type 0 where
   pub has : is_some (f i) ≡ true → (row_of (f i)).key ≡ q
   pub before : Passed f q a i
 
--- From a key's home on, i is the first cell that has the key or is free.
-abbrev pub Ends : (ℕ → Option Row) → ℕ → ℕ → ℕ → Type 0
-Ends f m q i = (d : ℕ) × (d < m) × (i ≡ at m (home_of q m) d) × (i < m) × (is_some (f i) ≡ true → (row_of (f i)).key ≡ q) × Seen f m q d
+-- From a key's home on, i is the first cell that has the key or is free, so many places on.
+pub record Ends (f : ℕ → Option Row) (m q i : ℕ) : Type 0 where
+  pub way : ℕ
+  pub way_lt : way < m
+  pub place : i ≡ at m (home_of q m) way
+  pub within : i < m
+  pub has : is_some (f i) ≡ true → (row_of (f i)).key ≡ q
+  pub seen : Seen f m q way
+
+-- The key's row stands in the cell i.
+pub record Holds (f : ℕ → Option Row) (m q i : ℕ) : Type 0 where
+  pub within : i < m
+  pub used : is_some (f i) ≡ true
+  pub has : (row_of (f i)).key ≡ q
+
+-- The search for a key ends at the free cell i.
+pub record Misses (f : ℕ → Option Row) (m q i : ℕ) : Type 0 where
+  pub ends : Ends f m q i
+  pub free : is_some (f i) ≡ false
 
 -- What the search for a key says: the cell of its row; or the free cell where the search ended; or
 -- that it passed every cell.
 abbrev pub Says : (ℕ → Option Row) → ℕ → ℕ → Spot → Type 0
-Says f m q (Found i) = (i < m) × (is_some (f i) ≡ true) × ((row_of (f i)).key ≡ q)
-Says f m q (Free i) = (d : ℕ) × (d < m) × (i ≡ at m (home_of q m) d) × (i < m) × (is_some (f i) ≡ false) × Seen f m q d
+Says f m q (Found i) = Holds f m q i
+Says f m q (Free i) = Misses f m q i
 Says f m q Nowhere = Seen f m q m
+
+-- What a search answers that ended so.
+abbrev pub answer_at : (ℕ → Option Row) → Spot → Option ℕ
+answer_at f (Found i) = Some (row_of (f i)).result
+answer_at f (Free i) = None
+answer_at f Nowhere = None
 
 -- Cells in order hold n rows and no key twice. Each row is found from its key's home on: no row stands
 -- beyond a free cell. And there is a cell that no row stands beyond, even where none is free: then it

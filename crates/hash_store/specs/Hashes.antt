@@ -12,8 +12,11 @@ use Rattle.hash_store.specs.Helds.{rows_within, rows_apart}
 abbrev pub usable_cells : HashStore → ℕ
 usable_cells s = min (length s.cells.now) 4096
 
+abbrev pub hash_rows : HashStore → List Row
+hash_rows s = rows_of (cell_at s.cells.now) (usable_cells s)
+
 abbrev pub hash_contents : HashStore → Contents
-hash_contents s = record { rows = rows_of (cell_at s.cells.now) (usable_cells s); capacity = usable_cells s; tally = s.tally }
+hash_contents s = record { rows = hash_rows s; capacity = usable_cells s; tally = s.tally }
 
 pub hash_lawful : (s : HashStore) → Lawful (hash_contents s)
 hash_lawful s =

@@ -3,7 +3,8 @@
 ghost use Rattle.std.specs.Prelude.{◌≡◌, ◌^◌, ◌<◌, min, List, Option, [], length, drop};
 ghost use Rattle.std.specs.Borrow.{GName};
 ghost use Rattle.store.specs.declared.row.Row.{Row};
-ghost use Rattle.hash_store.specs.Cells.{cell_at, Says, Sound};
+ghost use Rattle.store.specs.Rows.{find};
+ghost use Rattle.hash_store.specs.Cells.{cell_at, answer_at, Says, Sound};
 
 use crate::probe::{Spot, probe};
 use crate::shift::remove;
@@ -21,7 +22,7 @@ pub struct HashStore<'a> {
 }
 
 impl<'a> HashStore<'a> {
-    ghost use Rattle.hash_store.specs.Hashes.{usable_cells, hash_contents};
+    ghost use Rattle.hash_store.specs.Hashes.{usable_cells, hash_rows, hash_contents};
 
     // An empty store with room for as many rows as there are cells, 4,096 at most. The cells that it
     // uses are made free, and those past the first 4,096 are not used.
@@ -49,7 +50,8 @@ impl<'a> HashStore<'a> {
 
     // Where the key's row stands or would.
     fn spot(&self, key: u64) -> Spot
-        ensures { Says (cell_at self.now.cells.now) (usable_cells self.now) key result }
+        ensures says { Says (cell_at self.now.cells.now) (usable_cells self.now) key result }
+        ensures finds { find (hash_rows self.now) key ≡ answer_at (cell_at self.now.cells.now) result }
     {
         probe(self.cells, self.usable(), key)
     }

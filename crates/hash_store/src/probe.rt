@@ -57,10 +57,7 @@ fn stop(cells: &[Option<Row>], m: usize, key: u64) -> Option<usize>
     ensures { MatchOption result (Seen (cell_at cells.now) m key m) (λ i. Ends (cell_at cells.now) m key i) }
 {
     let h = home(key, m);
-    match scan(cells, h, m, key) {
-        Some(i) => Some(i),
-        None => scan(cells, 0, h, key),
-    }
+    scan(cells, h, m, key).or_else(|| scan(cells, 0, h, key))
 }
 
 // Looks for the key in the first m cells.

@@ -83,21 +83,15 @@ fn looked_at(cells: &[Option<Row>], key: u64) -> usize {
         return 0;
     }
     let h = home(key, m);
-    for d in 0..m {
-        if cells[around(h, d, m)].is_none_or(|row| row.key == key) {
-            return d + 1;
-        }
-    }
-    m
+    let passed = (0..m).position(|d| cells[around(h, d, m)].is_none_or(|row| row.key == key));
+    passed.map_or(m, |d| d + 1)
 }
 
 // How many cells the searches for all 1,024 keys look at.
 fn looked_at_in_all(cells: &[Option<Row>]) -> usize {
-    let mut total: usize = 0;
-    for i in 0..1024 {
-        total = total.saturating_add(looked_at(cells, chain_key(i)));
-    }
-    total
+    (0..1024).fold(0usize, |total, i| {
+        total.saturating_add(looked_at(cells, chain_key(i)))
+    })
 }
 
 // For keys at random, 1.17 cells a search are expected where a quarter of the cells is used, and 7.7

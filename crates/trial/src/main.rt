@@ -11,26 +11,19 @@ use policy::kinds::Kind;
 use policy::plain::first_rule;
 use policy::verdict::Verdict;
 use policy::worked::{worked_headers, worked_rules};
+use std::net::Ipv4Addr;
 use store::flat::FlatStore;
 use store::row::Row;
 
 // How many rows the store has room for.
 const CELLS: usize = 1024;
 
-// Tells an address in dotted form.
-fn tell_address(rt: &HostRuntime, address: u32) -> anyhow::Result<()> {
-    let [a, b, c, d] = address.to_be_bytes();
-    print!(rt; "{a}.{b}.{c}.{d}")?;
-    Ok(())
-}
-
 // Tells a header.
 fn tell_header(rt: &HostRuntime, header: &Header) -> anyhow::Result<()> {
     let [source, destination, from, to, protocol] = header.numbers;
-    tell_address(rt, source)?;
-    print!(rt; " port {from} to ")?;
-    tell_address(rt, destination)?;
-    print!(rt; " port {to}, protocol {protocol}: ")?;
+    let source = Ipv4Addr::from(source);
+    let destination = Ipv4Addr::from(destination);
+    print!(rt; "{source} port {from} to {destination} port {to}, protocol {protocol}: ")?;
     Ok(())
 }
 

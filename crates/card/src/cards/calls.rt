@@ -76,15 +76,11 @@ impl<S: Store> Card<S> {
     }
 
     // The state of a side, and how many rows of it the store holds.
-    pub fn read_side(&self, side: usize) -> Result<SideReading, Refusal>
+    pub fn read_side(&self, side: usize) -> Result<Side, Refusal>
         ensures { Right (shown self.now) (side_read side result) }
     {
         self.admit(side, SIDES)?;
-        let x = self.sides[side];
-        Ok(SideReading {
-            state: x.state,
-            rows: x.held,
-        })
+        Ok(self.sides[side])
     }
 
     // The searches of a seat's open look-up, 0 where the seat is free.
@@ -111,9 +107,7 @@ impl<S: Store> Card<S> {
     {
         self.admit(side, SIDES)?;
         let x = self.sides[side];
-        let Some(state) = next_state(x.state, clearing_change(x.held)) else {
-            return Err(Refusal::NotSetAside);
-        };
+        let state = next_state(x.state, clearing_change(x.held)).ok_or(Refusal::NotSetAside)?;
         if walked(&self.seats, side) {
             return Err(Refusal::LookupOpen);
         }
@@ -133,9 +127,7 @@ impl<S: Store> Card<S> {
         if self.seats[seat].is_some() {
             return Err(Refusal::NotFree);
         }
-        let Some(side) = self.current else {
-            return Err(Refusal::NothingInForce);
-        };
+        let side = self.current.ok_or(Refusal::NothingInForce)?;
         if !header.fits() {
             return Err(Refusal::HeaderTooWide);
         }
