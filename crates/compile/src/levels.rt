@@ -100,9 +100,9 @@ impl Level {
         if self.slots.is_full() {
             return None;
         }
+        let node = self.len() as u16;
         let start = self.edges.len();
         self.edges.try_extend_from_slice(edges).ok()?;
-        let node = self.slots.len() as u16;
         self.slots.push(Slot {
             start,
             count: edges.len(),

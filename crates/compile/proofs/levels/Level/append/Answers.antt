@@ -1,6 +1,4 @@
-use Rattle.std.proofs.Common.{sym, ◌∙◌, rules}
-use Rattle.std.proofs.lemmas.List.{length-map}
-use Rattle.compile.specs.Nodes.{node_of}
+use Rattle.std.proofs.Common.{rules}
 use Rattle.compile.proofs.Slots.{grown}
 use Rattle.compile.proofs.levels.Level.append.Goals as goal
 
@@ -16,4 +14,4 @@ returns c =
     let L = c.args.self.now in
     let g = grown L.edges.items c.try_extend_from_slice.new.self.items L.slots.items c.push.new.self.items c.args.edges.now c.len-start.result
     L.within L.sum (search rules) c.len-start.ensures.value c.push.ensures.items in
-    (g.nodes, c.len-node.ensures.value ∙ sym (length-map L.slots.items (node_of L.edges.items)))
+    (g.nodes, c.len-node.ensures.count)
