@@ -39,8 +39,10 @@ def functions():
                 i += 1
                 continue
             start, indent = i, len(lines[i]) - len(lines[i].lstrip())
-            while i < len(lines) and lines[i] != " " * indent + "}" and not lines[i].endswith(";"):
-                if lines[i].rstrip().endswith("{}"):
+            begun = False  # whether the body has begun; a method that only stands in a trait ends with a semicolon
+            while i < len(lines) and lines[i] != " " * indent + "}":
+                begun = begun or lines[i] == " " * indent + "{" or lines[i].endswith(") {") or bool(re.search(r"> .* \{$|-> \S+ \{$", lines[i]))
+                if lines[i].rstrip().endswith("{}") or (not begun and lines[i].endswith(";")):
                     break
                 i += 1
             text = lines[start:i + 1]
@@ -48,7 +50,7 @@ def functions():
             whole = "\n".join(text)
             head = whole.split("ensures")[0].split("requires")[0]
             inside = head[head.find("(") + 1:]
-            params = len(re.findall(r"\b\w+: ", inside.split("->")[0]))
+            params = len(re.findall(r"\b\w+: ", re.split(r"->|\) \{|\n\s*\{|\)\s*\n", inside)[0]))
             yield path, start + 1, m.group(1), params, clauses, "\n".join(s for s in text if s.strip() not in clauses)
             i += 1
 

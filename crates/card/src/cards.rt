@@ -6,6 +6,7 @@ use store::row::Row;
 
 pub mod calls;
 
+// Sides and seats are told by number: a call with a number that none of them has is answered by a refusal.
 pub const SIDES: usize = 3;
 
 pub const SEATS: usize = 8;
@@ -30,7 +31,7 @@ pub struct Walk {
 pub struct Card<S> {
     number: u32,
     store: S,
-    // whether the store was empty at building
+    // whether the store was empty at building; if not, each call of the card is refused for that
     usable: bool,
     sides: [Side; SIDES],
     // the open look-up of each seat

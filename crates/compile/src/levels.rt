@@ -41,7 +41,8 @@ pub(crate) fn add_run(draft: &mut Draft, high: u32, to: u16) -> Option<()>
     draft.try_push(Edge { high, to }).ok()
 }
 
-// The nodes of one level. Their edges stand one after another, a slot for each node.
+// The nodes of one level. Their edges stand one after another, a slot for each node: a level has its
+// memory from the start, so that no node has a vector of its own.
 #[derive(Drop)]
 pub struct Level {
     edges: ArrayVec<Edge, MAX_EDGES>,

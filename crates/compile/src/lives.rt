@@ -26,7 +26,8 @@ pub struct Piece {
 }
 
 // Looks at one rule more for the run of values that begins at low: the run ends before a value at which
-// the rule begins or ends, and the rule is kept where it takes these values.
+// the rule begins or ends, and the rule is kept where it takes these values. (That a field is one of the
+// five is asked by each function that reads one: what is left of a whole header has none.)
 fn narrow(rule: &Rule, i: usize, rest: Rest, low: u32, piece: Piece) -> Piece
     requires rule { i < 64 }
     requires field { rest.field < 5 }

@@ -17,7 +17,8 @@ pub enum CompileRefusal {
 }
 
 impl CompileRefusal {
-    // The number of the refusal.
+    // The number by which the refusal goes outside the library. Refusals of a header in the plain call have
+    // other numbers, so each enum has its own match.
     pub fn number(self) -> u8
         ensures { result ≡ compile_number self }
     {

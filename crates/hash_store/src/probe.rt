@@ -24,7 +24,7 @@ pub(crate) fn around(h: usize, d: usize, m: usize) -> usize
     if h + d < m { h + d } else { h + d - m }
 }
 
-// How far on from h the cell j is, around.
+// How far on from h the cell j is, around: the other way of `around`.
 pub(crate) fn between(h: usize, j: usize, m: usize) -> usize
     requires start { h < m }
     requires end { j < m }

@@ -31,7 +31,8 @@ pub enum PlainRefusal {
 }
 
 impl ListRefusal {
-    // The number of the refusal.
+    // The number by which the refusal goes outside the library. It is told by a match and not by the
+    // variants' own numbers, which an enum has only where no variant holds a value.
     pub fn number(self) -> u8
         ensures { result ≡ list_number self }
     {
@@ -43,7 +44,7 @@ impl ListRefusal {
 }
 
 impl PlainRefusal {
-    // The number of the refusal.
+    // The number by which the refusal goes outside the library.
     pub fn number(self) -> u8
         ensures { result ≡ plain_number self }
     {

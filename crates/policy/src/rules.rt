@@ -12,7 +12,8 @@ pub struct Range {
 }
 
 // A rule has a range for each field, and the code of a decision. Ranges of any form can be written
-// here; calls that take a rule ask whether it is good.
+// here, and a code that no decision has; calls that take a rule ask whether it is good, and answer by
+// the number of a refusal if not.
 #[derive(Clone, Copy, PartialEq, Eq, Debug)]
 pub struct Rule {
     pub ranges: [Range; FIELDS],

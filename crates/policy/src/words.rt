@@ -5,7 +5,8 @@ ghost use Rattle.policy.specs.Letters.{IsWord};
 // How many bytes a word has at most.
 pub const LONGEST: usize = 16;
 
-// A word: 1 to 16 bytes, none of them a comma or a line feed.
+// A word: 1 to 16 bytes, none of them a comma or a line feed. It is handed out by value and takes no
+// memory of the heap, so it is no `String`.
 #[derive(Clone, Copy, Debug)]
 pub struct Word {
     bytes: [u8; LONGEST],

@@ -1,4 +1,4 @@
-// Worked examples of faults.
+// Worked examples of faults, a function for each: each is a theorem about its own text.
 #![tactic(auto)]
 
 ghost use Rattle.faults.specs.Faults.{tells_at};

@@ -10,6 +10,7 @@ use crate::traits::Store;
 
 #[derive(Drop)]
 pub struct FlatStore<'a> {
+    // lent by the caller, so they are no vector
     cells: &'a mut [Row],
     // how many of the cells hold rows
     count: usize,

@@ -27,6 +27,7 @@ pub enum StoreRefusal {
 }
 
 impl StoreRefusal {
+    // The number by which the refusal goes outside the library.
     pub fn number(self) -> u8
         ensures { result ≡ number_of self }
     {

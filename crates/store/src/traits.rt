@@ -12,7 +12,8 @@ pub trait Store {
     // What holds of the contents of every store.
     ghost lawful: { (s : Self) → Lawful (contents s) };
 
-    // What no call changes: of a store on lent cells, the cells that it does not use.
+    // What no call changes: of a store on lent cells, the cells that it does not use. Each call says so
+    // beside what it does to the contents, which know nothing of such cells.
     ghost Frame: { Type 0 };
 
     ghost frame: { Self → Frame };

@@ -100,7 +100,8 @@ pub fn write_then_search<S: Store>(s: &mut S, row: Row) -> Result<Option<u16>, S
     Ok(s.search(row.key))
 }
 
-// Erases the key's row, and then finds none.
+// Erases the key's row, and then finds none. (One function of this and of the one before would take the
+// change and all that it means as a parameter.)
 pub fn erase_then_search<S: Store>(s: &mut S, key: u64) -> Result<Option<u16>, StoreRefusal>
     ensures finds { ErasedThenSearched (S.contents s.old) key result (S.contents s.new) }
     ensures frame { S.frame s.new ≡ S.frame s.old }
