@@ -1,5 +1,5 @@
 // Runs of calls on a card.
-ghost use Rattle.std.specs.Prelude.{◌≡◌, ℕ, List, [], ◌∷◌, map, IfOk, MatchResult};
+ghost use Rattle.std.specs.Prelude.{◌≡◌, IfOk, MatchResult};
 ghost use Rattle.card.specs.Views.{call_of};
 ghost use Rattle.card.specs.Calls.{OneCall};
 ghost use Rattle.card.specs.Runs.{filed, all_filed, Went, Ran};

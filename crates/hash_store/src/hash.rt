@@ -17,7 +17,9 @@ pub struct HashStore<'a> {
     // how many of the cells hold rows
     count: usize,
     tally: u64,
+    // the cells that it uses are in order, and hold so many rows
     ghost in_order: { Sound (cell_at cells.now) (min (length cells.now) 4096) count },
+    // the tally has 64 bits
     ghost counts: { tally < 2 ^ 64 },
 }
 

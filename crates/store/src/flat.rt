@@ -19,6 +19,7 @@ pub struct FlatStore<'a> {
     ghost fits: { count ≤ min (length cells.now) 4096 },
     // no key stands twice
     ghost apart: { NoTwice (take count cells.now) },
+    // the tally has 64 bits
     ghost counts: { tally < 2 ^ 64 },
 }
 

@@ -4,7 +4,7 @@ ghost use Rattle.store.specs.Meaning.{Contents, Lawful, Searched, Written, Erase
 
 use crate::row::{Row, StoreRefusal};
 
-// A store is known by its contents.
+// A store is known by its contents. That it is in order is a matter of its type, so no call asks for it.
 pub trait Store {
     // The rows, the capacity and the tally.
     ghost contents: { Self → Contents };

@@ -1,13 +1,14 @@
 // The calls of a card.
-ghost use Rattle.std.specs.Prelude.{◌≡◌, ℕ, ◌+◌, ◌*◌, ◌<◌, ◌≤◌, ◌⊎◌, true, false, None, IfOk, IfErr, MatchResult, slice_index_or};
+ghost use Rattle.std.specs.Prelude.{◌≡◌, ℕ, ◌+◌, ◌*◌, ◌<◌, true, false, None, IfOk, MatchResult, slice_index_or};
 ghost use Rattle.store.specs.Rows.{key_at};
-ghost use Rattle.card.specs.declared.refusals.Refusal.TheVariants.{StoreNotEmpty, OutOfRange};
+ghost use Rattle.questions.specs.Asking.{ask, accept, refusal};
+ghost use Rattle.card.specs.Refusals.{number};
 ghost use Rattle.card.specs.Views.{Right, On};
 ghost use Rattle.card.specs.Calls.{shown, OneCall, begun, clearing};
 ghost use Rattle.card.specs.Answers.{side_read, seat_read, cleared, looked_up};
 ghost use Rattle.card.specs.Following.{Built};
 
-use crate::cards::*;
+use crate::cards::{CHAIN_ROWS, Card, SEATS, SIDES, Side, Walk};
 use crate::refusals::Refusal;
 use crate::states::{Change, SideState, next_state};
 use crate::tickets::LookupTicket;
@@ -63,8 +64,7 @@ impl<S: Store> Card<S> {
 
     // Asks whether the store was empty at building, then whether the place is one of so many.
     fn admit(&self, place: usize, places: usize) -> Result<(), Refusal>
-        ensures yes { IfOk result (λ _. (self.now.usable ≡ true) × (place < places)) }
-        ensures no { IfErr result (λ r. ((self.now.usable ≡ false) × (r ≡ StoreNotEmpty)) ⊎ ((self.now.usable ≡ true) × (places ≤ place) × (r ≡ OutOfRange))) }
+        ensures { ask 20 (self.now.usable ≡ true) (ask 21 (place < places) accept) (refusal number result) }
     {
         if !self.usable {
             return Err(Refusal::StoreNotEmpty);
