@@ -8,3 +8,4 @@ pub mod Calls
 pub mod Answers
 pub mod Following
 pub mod Runs
+pub mod Texts

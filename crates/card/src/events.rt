@@ -15,6 +15,11 @@ pub enum Call {
 }
 
 impl fmt::Display for Call {
+    ghost use Rattle.std.specs.Prelude.{Some};
+    ghost use Rattle.card.specs.Texts.{call_text};
+
+    ghost output = { λ call. Some (call_text call) };
+
     fn fmt<W: fmt::Write>(&self, f: &mut fmt::Formatter<W>) -> fmt::Result {
         match self {
             Call::ReadSide(side) => write!(f, "read side {side}"),
@@ -40,6 +45,11 @@ pub enum Event {
 
 // What the call answered.
 impl fmt::Display for Event {
+    ghost use Rattle.std.specs.Prelude.{Some};
+    ghost use Rattle.card.specs.Texts.{event_text};
+
+    ghost output = { λ event. Some (event_text event) };
+
     fn fmt<W: fmt::Write>(&self, f: &mut fmt::Formatter<W>) -> fmt::Result {
         match self {
             Event::SideRead(_, state, rows) => write!(f, "{state}, {rows} rows in the store"),

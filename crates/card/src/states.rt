@@ -19,6 +19,11 @@ pub enum SideState {
 }
 
 impl fmt::Display for SideState {
+    ghost use Rattle.std.specs.Prelude.{Some};
+    ghost use Rattle.card.specs.Texts.{state_text};
+
+    ghost output = { λ state. Some (state_text state) };
+
     fn fmt<W: fmt::Write>(&self, f: &mut fmt::Formatter<W>) -> fmt::Result {
         f.write_str(match self {
             SideState::Free => "free",

@@ -41,6 +41,10 @@ impl StoreRefusal {
 
 // A refusal is told by its number.
 impl fmt::Display for StoreRefusal {
+    ghost use Rattle.std.specs.Prelude.{Some, decimal};
+
+    ghost output = { λ refusal. Some (decimal (number_of refusal)) };
+
     fn fmt<W: fmt::Write>(&self, f: &mut fmt::Formatter<W>) -> fmt::Result {
         write!(f, "{}", self.number())
     }

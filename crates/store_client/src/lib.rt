@@ -18,6 +18,11 @@ pub enum Call {
 }
 
 impl fmt::Display for Call {
+    ghost use Rattle.std.specs.Prelude.{Some};
+    ghost use Rattle.store_client.specs.Texts.{call_text};
+
+    ghost output = { λ call. Some (call_text call) };
+
     fn fmt<W: fmt::Write>(&self, f: &mut fmt::Formatter<W>) -> fmt::Result {
         match self {
             Call::Search(key) => write!(f, "search for {key}"),
@@ -37,6 +42,11 @@ pub enum Outcome {
 }
 
 impl fmt::Display for Outcome {
+    ghost use Rattle.std.specs.Prelude.{Some};
+    ghost use Rattle.store_client.specs.Texts.{outcome_text};
+
+    ghost output = { λ outcome. Some (outcome_text outcome) };
+
     fn fmt<W: fmt::Write>(&self, f: &mut fmt::Formatter<W>) -> fmt::Result {
         match self {
             Outcome::Found(Some(result)) => write!(f, "found {result}"),
