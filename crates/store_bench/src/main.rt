@@ -63,15 +63,24 @@ fn fill<S: Store>(s: &mut S, n: u32) {
 }
 
 // Searches for n keys of generation g, and counts those that are found.
-fn count_found<S: Store>(s: &mut S, n: u32, g: u32) -> usize {
-    (0..n).filter(|i| s.search(key(*i, g)).is_some()).count()
+// Loops here and below: with `filter`, `count` and `fold` the hash store's hits are measured slower (71 M/s, not 87).
+fn count_found<S: Store>(s: &mut S, n: u32, g: u32) -> u32 {
+    let mut found: u32 = 0;
+    for i in 0..n {
+        if s.search(key(i, g)).is_some() {
+            found = found.saturating_add(1);
+        }
+    }
+    found
 }
 
 // Does so as often as the run says.
-fn count_rounds<S: Store>(s: &mut S, run: Run, g: u32) -> usize {
-    (0..run.searches).fold(0, |found: usize, _| {
-        found.saturating_add(count_found(s, run.rows, g))
-    })
+fn count_rounds<S: Store>(s: &mut S, run: Run, g: u32) -> u32 {
+    let mut found: u32 = 0;
+    for _ in 0..run.searches {
+        found = found.saturating_add(count_found(s, run.rows, g));
+    }
+    found
 }
 
 // Puts each of n rows in place of the one of the generation `old`.
