@@ -1,10 +1,9 @@
-use Rattle.std.proofs.Common.{◌≡◌, ◌+◌, ◌<◌, List, [], ◌++◌, length, get_or, drop, sym, ap, ◌∙◌, subst, arith, rules}
-use Rattle.std.proofs.lemmas.List.{append-nil, drop_all, length-map, length-set}
+use Rattle.std.proofs.Common.{◌≡◌, ◌+◌, ◌<◌, List, [], ◌++◌, length, get_or, sym, ap, ◌∙◌, subst, arith, rules}
+use Rattle.std.proofs.lemmas.List.{length-set}
 use Rattle.policy.specs.Fields.{widths}
-use Rattle.store.specs.declared.row.Row.{Row}
-use Rattle.diagram.specs.Diagrams.{Node, Diagram}
-use Rattle.diagram.specs.Chains.{rows_of_level, rows_from, chain}
-use Rattle.compile.specs.Levels.{nodes_of, diagram_of, AllRuns}
+use Rattle.diagram.specs.Diagrams.{Node}
+use Rattle.diagram.specs.Chains.{rows_of_level, chain}
+use Rattle.compile.specs.Levels.{diagram_of, AllRuns}
 use Rattle.compile.specs.Writing.{Measured}
 use Rattle.compile.proofs.Levelling.{part_more, part_full, level_is, chain_open, told_more}
 use Rattle.compile.proofs.chains.chain_rows.Goals as goal
@@ -30,9 +29,6 @@ returns-in_err-write_rows c =
     ) in
     rw c.from_residual.ensures long
 
-pub loop-field-init : goal.loop-field-init
-loop-field-init c = (c.told-lengths, ap (λ (z : List Row). z ++ chain c.args.side widths (diagram_of c.args.levels.now)) c.clear.ensures, λ f l. absurd (omega arith))
-
 pub loop-field-preserved : goal.loop-field-preserved
 loop-field-preserved c =
     let lf : c.loop-field.field < 5 = c.loop-field-test.true in
@@ -46,15 +42,3 @@ loop-field-preserved c =
       told_more c.loop-field.lengths (diagram_of c.args.levels.now) c.loop-field.field c.write_rows.new.lengths (omega (arith, c.loop-field.invariant.0)) c.loop-field.invariant.2
           (subst (λ (z : List Node). Measured c.write_rows.new.lengths (get_or widths c.loop-field.field 0) z (length z)) e w.told),
     )
-
-pub returns : goal.returns
-returns c =
-    let e : c.loop-field.field ≡ 5 = omega arith in
-    let five : length c.args.levels.now ≡ 5 = search rules in
-    record {
-      are = sym (append-nil c.loop-field.rows.items)
-          ∙ ap (λ (z : List Row). c.loop-field.rows.items ++ z) (subst (λ n. [] ≡ rows_from c.args.side (drop n widths) (1 + n) (drop n (diagram_of c.args.levels.now))) (sym e)
-          (ap (λ (z : Diagram). rows_from c.args.side [] 6 z) (sym (drop_all 5 (diagram_of c.args.levels.now) (omega (arith, length-map c.args.levels.now nodes_of, five))))))
-          ∙ c.loop-field.invariant.1;
-      told = λ f l. c.loop-field.invariant.2 f (omega arith);
-    }

@@ -1,15 +1,9 @@
 use Rattle.std.proofs.Common.{sym, ◌∙◌, arith}
 use Rattle.std.proofs.lemmas.List.{length-set}
-use Rattle.compile.proofs.Lacking.{never_last, targets_differ, found, none_all, excludes_more}
+use Rattle.compile.proofs.Lacking.{found, none_all, excludes_more}
 use Rattle.compile.proofs.Memory.{some_at}
 use Rattle.compile.proofs.gaps.+least.Goals.{then-is_some-via-then-is_some, then-is_some-via-else-is_some+then-shadows}
 use Rattle.compile.proofs.gaps.+least.Goals as goal
-
-pub returns-else-eq : goal.returns-else-eq
-returns-else-eq t c = record {
-  found = never_last c.args.lives.now.rules.now c.args.rest.live.bits c.args.rest.field c.args.target c.first.result c.if-rest-eq-FIELDS.true c.first.ensures.value (targets_differ _ _ c.if-eq.ensures);
-  known = c.requires.known;
-}
 
 pub returns-in-Some : goal.returns-in-Some
 returns-in-Some t c =

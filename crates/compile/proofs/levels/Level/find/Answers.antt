@@ -11,6 +11,3 @@ returns-then-eq c =
 pub loop-k-preserved : goal.loop-k-preserved
 loop-k-preserved c =
     below_more _ _ c.loop-k.invariant (λ e. false≢true ((slice_eq-Decides Decides-edge _ _ _ c.if-eq.ensures).1 (c.node.ensures ∙ e)))
-
-pub returns : goal.returns
-returns c = λ k l e. c.loop-k.invariant k (omega (arith, c.len-k-end.ensures.count)) e

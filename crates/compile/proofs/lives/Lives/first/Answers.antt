@@ -1,5 +1,5 @@
-use Rattle.std.proofs.Common.{◌≡◌, ◌+◌, true, false, [], length, sym, refl, arith}
-use Rattle.std.proofs.lemmas.Bool.{and_from, and_left}
+use Rattle.std.proofs.Common.{◌≡◌, ◌+◌, true, [], length, sym, refl, arith}
+use Rattle.std.proofs.lemmas.Bool.{and_from}
 use Rattle.diagram.specs.Masks.{bit}
 use Rattle.compile.specs.Lives.{takes}
 use Rattle.compile.proofs.Living.{where_more, where_next}
@@ -13,8 +13,3 @@ returns-then-has c =
           (where_next (takes c.args.self.now.rules.now c.args.live.bits 5 []) c.loop-i.i c.loop-i.invariant true t));
       within = c.loop-i-test.true;
     }
-
-pub loop-i-preserved : goal.loop-i-preserved
-loop-i-preserved c =
-    where_next (takes c.args.self.now.rules.now c.args.live.bits 5 []) c.loop-i.i c.loop-i.invariant false
-    (and_left (bit c.args.live.bits c.loop-i.i) true (sym c.if-has.ensures))
