@@ -13,6 +13,7 @@ use store::traits::Store;
 
 #[derive(Drop)]
 pub struct HashStore<'a> {
+    // lent by the caller, so they are no vector
     cells: &'a mut [Option<Row>],
     // how many of the cells hold rows
     count: usize,

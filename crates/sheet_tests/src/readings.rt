@@ -16,7 +16,8 @@ pub fn place() -> Rule {
     }
 }
 
-// The reading is refused with this number at this byte, line and field.
+// The reading is refused with this number at this byte, line and field. (The four stand apart, so that the
+// examples read as lines of a table.)
 pub fn told(
     rt: &impl Abort,
     reading: Result<usize, SheetFault>,
