@@ -5,7 +5,8 @@ ghost use Rattle.hash_store.specs.Cells.{cell_at, at, Passed, Stops, Seen, Ends,
 use crate::homes::home;
 use store::row::Row;
 
-// Where a key's row stands, or the free cell where it would, or that there is neither.
+// Where a key's row stands, or the free cell where it would, or that there is neither: three cases, so
+// it is no `Option` and no `Result`.
 #[derive(Clone, Copy)]
 pub(crate) enum Spot {
     Found(usize),

@@ -8,7 +8,8 @@ use crate::probe::{around, between};
 use store::row::Row;
 
 // Fills the cell i, whose row goes, with the next row whose way from its home passes that cell, then
-// the cell of that row, and so on. Returns the cell that is left over.
+// the cell of that row, and so on. Returns the cell that is left over. (By the distance, since cells are
+// written while they are walked, around the last one.)
 fn settle(cells: &mut [Option<Row>], m: usize, i: usize) -> usize
     requires here { i < m }
     requires within { m ≤ length cells.old }
