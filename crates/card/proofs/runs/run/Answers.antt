@@ -1,5 +1,5 @@
 use Rattle.std.proofs.Common.{vec_items, ◌∙◌, rules}
-use Rattle.card.proofs.Logs.{went_more, went_all, filed_more, same_number}
+use Rattle.card.proofs.Logs.{went_more, filed_more, same_number}
 use Rattle.card.proofs.runs.run.Goals as goal
 
 pub loop-call-preserved : goal.loop-call-preserved
@@ -17,12 +17,4 @@ loop-call-preserved g c =
           c.args.card.now c.loop-call.card c.run_one-event.new.card c.loop-call-test.true pushed one.call one.one inv.went;
       filed = one.filed ∙ filed_more _ _ _ _ (vec_items c.loop-call.log) _ event pushed inv.numbered inv.filed;
       numbered = same_number S.contents c.loop-call.card event c.run_one-event.new.card one.one.changed ∙ inv.numbered;
-    }
-
-pub returns : goal.returns
-returns g c =
-    let inv = c.loop-call.invariant in
-    record {
-      went = went_all g.S.Store.contents g.S.Store.frame c.args.calls.now c.loop-call.call-index _ _ _ c.loop-call-test.false inv.went;
-      tickets = inv.filed;
     }

@@ -1,13 +1,9 @@
 use Rattle.std.proofs.Common.{◌<◌, length, Some, refl, ap, inl, inr, arith}
 use Rattle.std.proofs.lemmas.List.{drop-set-lt}
-use Rattle.store.specs.Finds.{found_some}
 use Rattle.hash_store.specs.Cells.{cell_at, rows_of}
 use Rattle.hash_store.specs.Hashes.{usable_cells}
 use Rattle.hash_store.proofs.Probes.{rows_full, round_full, wrote_room, wrote_sound, wrote_added}
 use Rattle.hash_store.proofs.hash.HashStoreStore.write.Goals as goal
-
-pub returns-in-Found-clause-written : goal.returns-in-Found-clause-written
-returns-in-Found-clause-written c = record { asked = inr (found_some _ _ c.in-Found.ensures.finds, refl); effect = refl }
 
 pub returns-in-Nowhere-clause-written : goal.returns-in-Nowhere-clause-written
 returns-in-Nowhere-clause-written c =

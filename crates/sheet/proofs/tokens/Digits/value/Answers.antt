@@ -7,11 +7,6 @@ overflow_mul-n c =
     let s = number_step c.args.self.now.bytes.now c.loop-b.b-index c.args.self.now.few c.args.self.now.all c.loop-b-test.true in
     omega arith
 
-pub overflow_sub-b : goal.overflow_sub-b
-overflow_sub-b c =
-    let s = number_step c.args.self.now.bytes.now c.loop-b.b-index c.args.self.now.few c.args.self.now.all c.loop-b-test.true in
-    omega arith
-
 pub overflow_add-n : goal.overflow_add-n
 overflow_add-n c =
     let s = number_step c.args.self.now.bytes.now c.loop-b.b-index c.args.self.now.few c.args.self.now.all c.loop-b-test.true in
