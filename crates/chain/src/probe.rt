@@ -24,8 +24,9 @@ pub fn least_value(width: u8, length: u8, value: u32) -> u32
     if free < 32 { value >> free << free } else { 0 }
 }
 
-// The key of a block in a table of a side. Callers have the five numbers apart, so they are no struct. Of the side the last two bits count, of the level three and
-// of the length six, as many as a key has room for.
+// The key of a block in a table of a side. Of the side the last two bits count, of the level three and of
+// the length six, as many as a key has room for. (The five numbers are no struct: a look-up has the last
+// two from a search, and the others from where it stands.)
 pub fn block_key(side: u8, level: u8, node: u8, length: u8, value: u32) -> u64
     ensures { result ≡ key_of (side % 4) (level % 8) node (record { len = length % 64; value = value }) }
 {

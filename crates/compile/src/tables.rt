@@ -1,5 +1,6 @@
 // The tables of a chain, as a card keeps them.
-ghost use Rattle.std.specs.Prelude.{◌≡◌, length, take};
+ghost use Rattle.std.specs.Prelude.{◌≡◌, ◌++◌, length, drop, replicate};
+ghost use Rattle.store.specs.Rows.{blank};
 
 use crate::levels::MAX_NODES;
 use crate::places::Place;
@@ -22,9 +23,9 @@ pub const NO_TABLES: Tables = Tables {
 };
 
 impl Place {
-    // The tables of the list that was compiled here.
+    // The tables of the list that was compiled here; after its rows stand rows of zeros.
     pub fn tables(&self) -> Tables
-        ensures rows { take (length self.now.rows.items) result.rows ≡ self.now.rows.items }
+        ensures rows { result.rows ≡ self.now.rows.items ++ drop (length self.now.rows.items) (replicate 1024 blank) }
         ensures lengths { result.lengths ≡ self.now.lengths }
     {
         let mut rows = NO_TABLES.rows;

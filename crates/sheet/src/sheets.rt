@@ -143,13 +143,11 @@ impl<K: Kind> LineForm for RuleForm<K> {
         let ranges = reader.ranges()?;
         let start = reader.begin(6);
         let word = reader.rest_of_line();
-        match K::from_word(word) {
-            Some(decision) => Ok(Rule {
-                ranges,
-                code: decision.code(),
-            }),
-            None => Err(SheetFault::NoWord(start)),
-        }
+        let decision = K::from_word(word).ok_or(SheetFault::NoWord(start))?;
+        Ok(Rule {
+            ranges,
+            code: decision.code(),
+        })
     }
 }
 
