@@ -4,7 +4,7 @@ ghost use Rattle.std.specs.Prelude.{◌≡◌, slice_set};
 
 use crate::tickets::LookupTicket;
 
-// Puts a ticket into a place of the box; a place that the box does not have takes nothing.
+// Puts a ticket into a place of the box, or empties it; a place that the box does not have takes nothing.
 pub fn put(tickets: &mut [Option<LookupTicket>], place: usize, ticket: Option<LookupTicket>)
     ensures { tickets.new ≡ slice_set tickets.old place ticket }
 {

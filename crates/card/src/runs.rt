@@ -33,7 +33,7 @@ fn run_look_up<S: Store>(
     }
 }
 
-// Makes one call.
+// Makes one call. Each call has an event of its own; a refusal is told with the call as it was made.
 fn run_one<S: Store>(card: &mut Card<S>, call: Call, tickets: &mut [Option<LookupTicket>]) -> Event
     ensures one { OneCall S.Store.contents S.Store.frame card.old result card.new }
     ensures call { call_of result ≡ call }

@@ -46,6 +46,7 @@ fn least(
         }
         low = piece.end as u64 + 1;
     }
+    // Here the memory is a set: it is the diagram's too, whose nodes it holds, so as to be there once.
     remember(known, Known { rest, node: 0 });
     None
 }

@@ -82,7 +82,8 @@ impl Level {
         &self.edges[slot.start..slot.start + slot.count]
     }
 
-    // The number of the node with these edges.
+    // The number of the node with these edges. (Nodes go by number, here and where rows are written: their
+    // edges are read through their slots.)
     fn find(&self, edges: &[Edge]) -> Option<u16>
         ensures { MatchOption result ((k : ℕ) → k < length (nodes_of self.now) → slice_index_or (nodes_of self.now) k [] ≢ edges.now) (λ k. (k < length (nodes_of self.now)) × (slice_index_or (nodes_of self.now) k [] ≡ edges.now)) }
     {

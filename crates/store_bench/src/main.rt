@@ -2,6 +2,7 @@
 // operations each makes in a second.
 #![tactic(auto)]
 
+use chain::probe::block_key;
 use hash_store::hash::HashStore;
 use std::time::Instant;
 use std::{env, io};
@@ -11,10 +12,10 @@ use store::traits::Store;
 
 // The key of row i in its generation g: side 1, 1,024 rows to a level and four to a node, length 32.
 fn key(i: u32, g: u32) -> u64 {
-    let level = u64::from(i / 1024);
-    let node = u64::from(i / 4 % 256);
-    let value = u64::from(g.wrapping_mul(4) | i % 4);
-    1 << 56 | level << 48 | node << 40 | 32 << 32 | value
+    let level = (i / 1024 % 8) as u8;
+    let node = (i / 4 % 256) as u8;
+    let value = g.wrapping_mul(4) | i % 4;
+    block_key(1, level, node, 32, value)
 }
 
 // How many rows a store holds, how often each of them is searched for, and how often it is renewed.

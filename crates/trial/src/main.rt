@@ -11,6 +11,7 @@ use policy::kinds::Kind;
 use policy::plain::first_rule;
 use policy::verdict::Verdict;
 use policy::worked::{worked_headers, worked_rules};
+use std::fmt;
 use std::net::Ipv4Addr;
 use store::flat::FlatStore;
 use store::row::Row;
@@ -18,43 +19,49 @@ use store::row::Row;
 // How many rows the store has room for.
 const CELLS: usize = 1024;
 
-// Tells a header.
-fn tell_header(rt: &HostRuntime, header: &Header) -> anyhow::Result<()> {
-    let [source, destination, from, to, protocol] = header.numbers;
-    let source = Ipv4Addr::from(source);
-    let destination = Ipv4Addr::from(destination);
-    print!(rt; "{source} port {from} to {destination} port {to}, protocol {protocol}: ")?;
-    Ok(())
+// A header in words.
+#[derive(Drop)]
+struct Route(Header);
+
+impl fmt::Display for Route {
+    fn fmt<W: fmt::Write>(&self, f: &mut fmt::Formatter<W>) -> fmt::Result {
+        let [source, destination, from, to, protocol] = self.0.numbers;
+        let source = Ipv4Addr::from(source);
+        let destination = Ipv4Addr::from(destination);
+        write!(
+            f,
+            "{source} port {from} to {destination} port {to}, protocol {protocol}"
+        )
+    }
 }
 
-// Tells the word of a decision's code.
-fn tell_decision(rt: &HostRuntime, code: u16) -> anyhow::Result<()> {
-    if let Some(verdict) = Verdict::from_code(code) {
-        for byte in verdict.word().as_bytes() {
-            let letter = char::from(*byte);
-            print!(rt; "{letter}")?;
+// The word of a decision, and its code.
+#[derive(Drop)]
+struct Decision(u16);
+
+impl fmt::Display for Decision {
+    fn fmt<W: fmt::Write>(&self, f: &mut fmt::Formatter<W>) -> fmt::Result {
+        if let Some(verdict) = Verdict::from_code(self.0) {
+            for byte in verdict.word().as_bytes() {
+                let letter = char::from(*byte);
+                write!(f, "{letter}")?;
+            }
         }
+        write!(f, " (code {})", self.0)
     }
-    println!(rt; " (code {code})")?;
-    Ok(())
 }
 
 // Decides the worked headers by the plain call.
 fn decide_all(rt: &HostRuntime) -> anyhow::Result<()> {
     let rules = worked_rules();
-    let headers = worked_headers();
-    for header in headers.iter() {
-        tell_header(rt, header)?;
-        match first_rule::<Verdict>(&rules, header) {
+    for header in worked_headers() {
+        let route = Route(header);
+        match first_rule::<Verdict>(&rules, &header) {
             Ok(met) => {
-                let rule = met.rule;
-                print!(rt; "rule {rule} is the first met, ")?;
-                tell_decision(rt, met.code)?;
+                let decision = Decision(met.code);
+                println!(rt; "{route}: rule {} is the first met, {decision}", met.rule)?;
             }
-            Err(refusal) => {
-                let number = refusal.number();
-                println!(rt; "refused with {number}")?;
-            }
+            Err(refusal) => println!(rt; "{route}: refused with {}", refusal.number())?,
         }
     }
     Ok(())
