@@ -5,6 +5,7 @@ ghost use Rattle.compile.specs.Compiling.{compile_number};
 
 use policy::fields::Header;
 use policy::refusals::ListRefusal;
+use std::fmt;
 
 #[derive(Clone, Copy, PartialEq, Eq, Debug)]
 pub enum CompileRefusal {
@@ -27,6 +28,17 @@ impl CompileRefusal {
             CompileRefusal::Gap(_) => 10,
             CompileRefusal::TooLarge => 11,
         }
+    }
+}
+
+// A refusal is told by its number.
+impl fmt::Display for CompileRefusal {
+    ghost use Rattle.std.specs.Prelude.{Some, decimal};
+
+    ghost output = { λ refusal. Some (decimal (compile_number refusal)) };
+
+    fn fmt<W: fmt::Write>(&self, f: &mut fmt::Formatter<W>) -> fmt::Result {
+        write!(f, "{}", self.number())
     }
 }
 

@@ -126,10 +126,7 @@ impl<'a> Bench<'a> {
         let spent = start.elapsed(rt)?;
         match result {
             Ok(rows) => print!(rt; "{name}: {rows} rows, nodes")?,
-            Err(refusal) => {
-                let number = refusal.number();
-                print!(rt; "{name}: refused with {number}, nodes")?;
-            }
+            Err(refusal) => print!(rt; "{name}: refused with {refusal}, nodes")?,
         }
         for level in 0..FIELDS {
             let nodes = self.place.node_count(level).unwrap_or(0);

@@ -4,7 +4,8 @@
 ghost use Rattle.std.specs.Prelude.{◌≡◌};
 ghost use Rattle.faults.specs.declared.FieldFault.TheVariants.{IllMade};
 ghost use Rattle.faults.specs.declared.SheetFault.TheVariants.{Field};
-ghost use Rattle.faults.specs.Faults.{tells_here, told};
+ghost use Rattle.faults.specs.declared.Layer.TheVariants.{Sheet};
+ghost use Rattle.faults.specs.Faults.{tells_at, tells_here, told};
 
 // How many bytes a sheet has at most.
 pub const LONGEST_SHEET: usize = 8192;
@@ -91,6 +92,21 @@ impl From<FieldFault> for SheetFault {
     }
 }
 
+impl Told {
+    // A fault of the sheet as a whole, or of a line: by its number, its byte and the line.
+    fn of_sheet(number: u8, byte: usize, line: usize) -> Told
+        ensures { result ≡ tells_at number byte line 0 Sheet }
+    {
+        Told {
+            number,
+            byte,
+            line,
+            field: 0,
+            layer: Layer::Sheet,
+        }
+    }
+}
+
 impl Position {
     // A fault here, by its number and its layer.
     fn told(self, number: u8, layer: Layer) -> Told
@@ -112,27 +128,9 @@ impl SheetFault {
         ensures { result ≡ told self }
     {
         match self {
-            SheetFault::TooLong => Told {
-                number: 1,
-                byte: LONGEST_SHEET,
-                line: 0,
-                field: 0,
-                layer: Layer::Sheet,
-            },
-            SheetFault::NoPlace { at, line } => Told {
-                number: 2,
-                byte: at,
-                line,
-                field: 0,
-                layer: Layer::Sheet,
-            },
-            SheetFault::NoLineFeed { at, line } => Told {
-                number: 3,
-                byte: at,
-                line,
-                field: 0,
-                layer: Layer::Sheet,
-            },
+            SheetFault::TooLong => Told::of_sheet(1, LONGEST_SHEET, 0),
+            SheetFault::NoPlace { at, line } => Told::of_sheet(2, at, line),
+            SheetFault::NoLineFeed { at, line } => Told::of_sheet(3, at, line),
             SheetFault::Field(FieldFault::IllMade(fault)) => fault.position.told(4, Layer::Token),
             SheetFault::Field(FieldFault::Misfit(here)) => here.told(5, Layer::Field),
             SheetFault::Field(FieldFault::OutOfRange(here)) => here.told(6, Layer::Field),

@@ -3,6 +3,8 @@ ghost use Rattle.std.specs.Prelude.{◌≡◌};
 ghost use Rattle.policy.specs.declared.refusals.PlainRefusal.TheVariants.{List as OfList};
 ghost use Rattle.policy.specs.Refusals.{list_number, plain_number};
 
+use std::fmt;
+
 // The first rule met, counted from 0, and its code.
 #[derive(Clone, Copy, PartialEq, Eq, Debug)]
 pub struct Met {
@@ -53,6 +55,28 @@ impl PlainRefusal {
             PlainRefusal::HeaderTooWide => 12,
             PlainRefusal::NoRuleMet => 13,
         }
+    }
+}
+
+// A refusal is told by its number.
+impl fmt::Display for ListRefusal {
+    ghost use Rattle.std.specs.Prelude.{Some, decimal};
+
+    ghost output = { λ refusal. Some (decimal (list_number refusal)) };
+
+    fn fmt<W: fmt::Write>(&self, f: &mut fmt::Formatter<W>) -> fmt::Result {
+        let number = self.number();
+        write!(f, "{number}")
+    }
+}
+
+impl fmt::Display for PlainRefusal {
+    ghost use Rattle.std.specs.Prelude.{Some, decimal};
+
+    ghost output = { λ refusal. Some (decimal (plain_number refusal)) };
+
+    fn fmt<W: fmt::Write>(&self, f: &mut fmt::Formatter<W>) -> fmt::Result {
+        write!(f, "{}", self.number())
     }
 }
 

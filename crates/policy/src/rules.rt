@@ -31,7 +31,8 @@ impl Range {
 
 impl Rule {
     // Whether the rule takes this value of this field. Fields count from 0, and of a field past the
-    // last the rule takes no value.
+    // last the rule takes no value. (A match: for `is_some_and` over a range behind a reference no proof
+    // was found.)
     pub fn admits(&self, field: usize, value: u32) -> bool
         ensures { result ≡ admits self.now field value }
     {

@@ -61,7 +61,7 @@ fn decide_all(rt: &HostRuntime) -> anyhow::Result<()> {
                 let decision = Decision(met.code);
                 println!(rt; "{route}: rule {} is the first met, {decision}", met.rule)?;
             }
-            Err(refusal) => println!(rt; "{route}: refused with {}", refusal.number())?,
+            Err(refusal) => println!(rt; "{route}: refused with {refusal}")?,
         }
     }
     Ok(())
@@ -72,10 +72,7 @@ fn compile_rules(rt: &HostRuntime) -> anyhow::Result<()> {
     let mut place = Place::new();
     match compile::<Verdict>(&worked_rules(), 0, &mut place) {
         Ok(rows) => println!(rt; "the rules compile to a chain of {rows} rows")?,
-        Err(refusal) => {
-            let number = refusal.number();
-            println!(rt; "the rules are refused with {number}")?;
-        }
+        Err(refusal) => println!(rt; "the rules are refused with {refusal}")?,
     }
     for level in 0..FIELDS {
         let nodes = place.node_count(level).unwrap_or(0);
