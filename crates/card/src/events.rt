@@ -4,14 +4,17 @@ use crate::states::SideState;
 use policy::fields::Header;
 use std::fmt;
 
-// A call on a card. Where it leaves a ticket, its last number is the place in the ticket box that the
-// ticket goes to.
+// A call on a card. Where it leaves a ticket, the place is that in the ticket box that the ticket goes to.
 #[derive(Clone, Copy, Debug)]
 pub enum Call {
     ReadSide(usize),
     ReadSeat(usize),
     Clear(usize),
-    LookUp(usize, Header, usize),
+    LookUp {
+        seat: usize,
+        header: Header,
+        place: usize,
+    },
 }
 
 impl fmt::Display for Call {
@@ -25,7 +28,7 @@ impl fmt::Display for Call {
             Call::ReadSide(side) => write!(f, "read side {side}"),
             Call::ReadSeat(seat) => write!(f, "read seat {seat}"),
             Call::Clear(side) => write!(f, "clear a row of side {side}"),
-            Call::LookUp(seat, _, _) => write!(f, "look a header up in seat {seat}"),
+            Call::LookUp { seat, .. } => write!(f, "look a header up in seat {seat}"),
         }
     }
 }
@@ -33,13 +36,24 @@ impl fmt::Display for Call {
 #[derive(Clone, Copy, Debug)]
 pub enum Event {
     // the side's state and the rows that it holds
-    SideRead(usize, SideState, u16),
+    SideRead {
+        side: usize,
+        state: SideState,
+        rows: u16,
+    },
     // the searches of the seat's open look-up
-    SeatRead(usize, u32),
+    SeatRead {
+        seat: usize,
+        searches: u32,
+    },
     // one row of the side was erased
     Cleared(usize),
     // a look-up began
-    Began(usize, Header, usize),
+    Began {
+        seat: usize,
+        header: Header,
+        place: usize,
+    },
     Refused(Call, Refusal),
 }
 
@@ -52,10 +66,10 @@ impl fmt::Display for Event {
 
     fn fmt<W: fmt::Write>(&self, f: &mut fmt::Formatter<W>) -> fmt::Result {
         match self {
-            Event::SideRead(_, state, rows) => write!(f, "{state}, {rows} rows in the store"),
-            Event::SeatRead(_, searches) => write!(f, "{searches} searches so far"),
+            Event::SideRead { state, rows, .. } => write!(f, "{state}, {rows} rows in the store"),
+            Event::SeatRead { searches, .. } => write!(f, "{searches} searches so far"),
             Event::Cleared(_) => write!(f, "done"),
-            Event::Began(_, _, place) => {
+            Event::Began { place, .. } => {
                 write!(f, "begun, its ticket is in place {place} of the box")
             }
             Event::Refused(_, refusal) => {

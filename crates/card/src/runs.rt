@@ -27,9 +27,20 @@ fn run_look_up<S: Store>(
     match card.look_up(seat, header) {
         Ok(ticket) => {
             put(tickets, place, Some(ticket));
-            Event::Began(seat, header, place)
+            Event::Began {
+                seat,
+                header,
+                place,
+            }
         }
-        Err(refusal) => Event::Refused(Call::LookUp(seat, header, place), refusal),
+        Err(refusal) => Event::Refused(
+            Call::LookUp {
+                seat,
+                header,
+                place,
+            },
+            refusal,
+        ),
     }
 }
 
@@ -41,18 +52,26 @@ fn run_one<S: Store>(card: &mut Card<S>, call: Call, tickets: &mut [Option<Looku
 {
     match call {
         Call::ReadSide(side) => match card.read_side(side) {
-            Ok(x) => Event::SideRead(side, x.state, x.held),
+            Ok(x) => Event::SideRead {
+                side,
+                state: x.state,
+                rows: x.held,
+            },
             Err(refusal) => Event::Refused(call, refusal),
         },
         Call::ReadSeat(seat) => match card.read_seat(seat) {
-            Ok(searches) => Event::SeatRead(seat, searches),
+            Ok(searches) => Event::SeatRead { seat, searches },
             Err(refusal) => Event::Refused(call, refusal),
         },
         Call::Clear(side) => match card.clear(side) {
             Ok(()) => Event::Cleared(side),
             Err(refusal) => Event::Refused(call, refusal),
         },
-        Call::LookUp(seat, header, place) => run_look_up(card, seat, header, tickets, place),
+        Call::LookUp {
+            seat,
+            header,
+            place,
+        } => run_look_up(card, seat, header, tickets, place),
     }
 }
 

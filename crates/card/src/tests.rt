@@ -55,7 +55,11 @@ fn store_with_rows_is_refused(rt: HostRuntime) -> Result<(), Fail> {
     let calls = [
         Call::ReadSide(9),
         Call::Clear(0),
-        Call::LookUp(0, Header { numbers: [0; 5] }, 0),
+        Call::LookUp {
+            seat: 0,
+            header: Header { numbers: [0; 5] },
+            place: 0,
+        },
     ];
     let mut tickets = [None];
     let (card, log) = run_new(rt.alloc(), 7, store, &calls, &mut tickets)?;
@@ -67,7 +71,11 @@ fn store_with_rows_is_refused(rt: HostRuntime) -> Result<(), Fail> {
 #[test]
 fn calls_and_answers_are_told_in_words(rt: HostRuntime) -> Result<(), Fail> {
     let call = Call::Clear(2);
-    let read = Event::SideRead(2, SideState::SetAside, 9);
+    let read = Event::SideRead {
+        side: 2,
+        state: SideState::SetAside,
+        rows: 9,
+    };
     let refused = Event::Refused(call, Refusal::LookupOpen);
     let text = format!(in rt.alloc(); "{call}: {read}; {refused}")?;
     assert_eq!(rt;

@@ -90,8 +90,16 @@ fn run_card(rt: &HostRuntime) -> anyhow::Result<()> {
         Call::ReadSide(0),
         Call::ReadSide(3),
         Call::ReadSeat(0),
-        Call::LookUp(0, header, 0),
-        Call::LookUp(8, header, 0),
+        Call::LookUp {
+            seat: 0,
+            header,
+            place: 0,
+        },
+        Call::LookUp {
+            seat: 8,
+            header,
+            place: 0,
+        },
         Call::Clear(1),
     ];
     let mut tickets = [None];
