@@ -1,10 +1,9 @@
 -- Rows that are written one after another.
-use Rattle.std.proofs.Common.{◌≡◌, ℕ, suc, ◌+◌, ◌-◌, ◌^◌, ◌<◌, ◌≤◌, Bool, true, false, ◌||◌, eqb, List, [], ◌∷◌, ◌++◌, length, get_or, drop, sym, refl, ap, ◌∙◌, subst, append_assoc, arith, length-append, pow_pos}
-use Rattle.std.proofs.lemmas.List.{append-nil, length-map, drop_more}
+use Rattle.std.proofs.Common.{◌≡◌, ℕ, ◌+◌, ◌-◌, ◌^◌, ◌<◌, ◌≤◌, Bool, true, false, ◌||◌, eqb, List, [], ◌∷◌, ◌++◌, length, get_or, drop, sym, refl, ap, ◌∙◌, subst, append_assoc, arith, length-append, pow_pos}
+use Rattle.std.proofs.lemmas.List.{length-map, drop_more}
 use Rattle.store.specs.declared.row.Row.{Row}
 use Rattle.diagram.specs.Blocks.{Block, cover}
 use Rattle.diagram.specs.Masks.{bit, With}
-use Rattle.diagram.proofs.Covers.{covering_done}
 use Rattle.chain.specs.Tables.{Tile, occurs, tiles as tiles_from, table as table_tiles}
 use Rattle.diagram.specs.declared.edges.Edge.{Edge}
 use Rattle.diagram.specs.Diagrams.{Node, Runs}
@@ -19,9 +18,6 @@ use Rattle.compile.specs.Writing.{key_in, rows_of, tiles_of, Extends}
 pub record Filled (before after : List Row) (from at : ℕ) (left : List Row) (tiles : List Tile) (all : List Row) (every : List Tile) : Type 0 where
   pub rows : after ++ left ≡ before ++ all
   pub lengths : (n : ℕ) → (bit at n || occurs tiles n) ≡ (bit from n || occurs every n)
-
-pub filled_none : (before : List Row) (from : ℕ) (all : List Row) (every : List Tile) → Filled before before from from all every all every
-filled_none before from all every = record { rows = refl; lengths = λ n. refl }
 
 or_swap : (a b c : Bool) → ((a || b) || c) ≡ (b || (a || c))
 or_swap true true c = refl
@@ -41,16 +37,6 @@ filled_more before after from at row tile left tiles all every more w F = record
 or_none : (b : Bool) → (b || false) ≡ b
 or_none true = refl
 or_none false = refl
-
--- nothing is left
-pub filled_all : (before after : List Row) (from at : ℕ) (all : List Row) (every : List Tile) → Filled before after from at [] [] all every → Extends before after from at all every
-filled_all before after from at all every F = record {
-  added = sym (append-nil after) ∙ F.rows;
-  lengths = λ n. sym (or_none (bit at n)) ∙ F.lengths n;
-}
-
-pub none_left : (w low hi : ℕ) → hi < low → cover w low hi ≡ []
-none_left w low hi l = covering_done (suc hi - low) w low hi l
 
 rows_length : (t : Table) (to : ℕ) (bs : List Block) → length (rows_of t to bs) ≡ length bs
 rows_length t to bs = let f : Block → Row = λ (b : Block). record { key = key_in t b; result = to } in length-map bs f
@@ -97,10 +83,6 @@ From w low (e ∷ es) = Runs (2 ^ w - 1) low (e ∷ es)
 
 abbrev pub no_edge : Edge
 no_edge = record { high = 0; to = 0 }
-
-pub from_start : (w : ℕ) (es : Node) → Runs (2 ^ w - 1) 0 es → From w 0 es
-from_start w [] r = absurd r
-from_start w (e ∷ es) r = r
 
 from_edge : (w low : ℕ) (e : Edge) (es : Node) → From w low (e ∷ es) → (low ≤ e.high) × (e.high < 2 ^ w) × From w (e.high + 1) es
 from_edge w low e [] r = (let p : 0 < 2 ^ w = pow_pos w in (r.0, omega (arith, r.1), omega (arith, r.1)))

@@ -51,12 +51,6 @@ header_none : (s : List ℕ) → Header [] s → s ≡ []
 header_none [] H = refl
 header_none (x ∷ s) H = absurd H.0
 
-pub never_last : (rules : List Rule) (live field : ℕ) (t o : Option ℕ) → field ≡ 5 → o ≡ first_live_rule rules live 5 [] → (o ≡ t → ⊥) → NeverLive rules live field t
-never_last rules live field t o f e n s H q =
-    let P : ℕ → Type 0 = λ k. Header (drop k widths) s in
-    let z : s ≡ [] = header_none s (subst P f H) in
-    n (e ∙ ap (λ k. first_live_rule rules live k []) (sym f) ∙ ap (λ (r : List ℕ). first_live_rule rules live field r) (sym z) ∙ q)
-
 module _ (rules : List Rule) (live field low top : ℕ) (t : Option ℕ) (piece : Piece) (lf : field < 5) (et : top + 1 ≡ 2 ^ get_or widths field 0) (C : Cut rules live field low top piece)
     (N : NoneBelow rules live field t low) where
   pub none_more : NeverLive rules piece.live.bits (field + 1) t → NoneBelow rules live field t (piece.end + 1)

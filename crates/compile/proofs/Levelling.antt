@@ -6,9 +6,7 @@ use Rattle.store.specs.declared.row.Row.{Row}
 use Rattle.policy.specs.Fields.{widths}
 use Rattle.diagram.specs.Diagrams.{Node, Diagram}
 use Rattle.diagram.specs.Keys.{key}
-use Rattle.diagram.specs.Masks.{bit}
 use Rattle.diagram.specs.Chains.{rows_of_edge, rows_of_level, rows_from, chain}
-use Rattle.chain.specs.Tables.{occurs, table}
 use Rattle.compile.specs.declared.levels.Level.{Level}
 use Rattle.compile.specs.Nodes.{node_of}
 use Rattle.compile.specs.Levels.{nodes_of, diagram_of}
@@ -30,15 +28,6 @@ module _ (before after : List Row) (side w level k : ℕ) (nodes : List Node) (l
     (F : after ++ rows_of_level side w level k (drop k nodes) ≡ before ++ rows_of_level side w level 0 nodes) where
   pub level_open : after ++ (rows_of_edge (key side level k) w 0 (get_or nodes k []) ++ rows_of_level side w level (k + 1) (drop (k + 1) nodes)) ≡ before ++ rows_of_level side w level 0 nodes
   level_open = ap (λ (z : List Node). after ++ rows_of_level side w level k z) (sym (drop_more nodes k [] l)) ∙ F
-
-pub measured_more : (masks : List ℕ) (w k mask : ℕ) (nodes : List Node) → k < length masks → Measured masks w nodes k
-    → ((n : ℕ) → bit mask n ≡ occurs (table w (get_or nodes k [])) n) → Measured (set masks k mask) w nodes (k + 1)
-measured_more masks w k mask nodes l M h j lj n =
-    ⊎_elim
-    (λ (e : j ≡ k). let P : ℕ → Type 0 = λ i. bit (get_or (set masks k mask) i 0) n ≡ occurs (table w (get_or nodes i [])) n in
-    subst P (sym e) (ap (λ m. bit m n) (get_or-set_same masks k mask 0 l) ∙ h n))
-    (λ (e : j ≢ k). ap (λ m. bit m n) (get_or-set_other masks k j mask 0 e) ∙ M j (omega arith) n)
-    (cases_eq j k)
 
 -- a level without nodes
 abbrev pub no_level : Level

@@ -1,8 +1,7 @@
 -- The first place at which a test holds, and the live rules of a run of values.
-use Rattle.std.proofs.Common.{◌≡◌, ℕ, zero, suc, ◌+◌, ◌-◌, ◌/◌, ◌^◌, ◌<◌, ◌≤◌, min, Bool, true, false, cond, ◌&&◌, ◌||◌, List, [], ◌∷◌, length, get_or, drop, set, Some, None, Option, sym, refl, ap, ◌∙◌, subst, inl, inr, ⊎_elim, add-one, arith, pow_pos}
+use Rattle.std.proofs.Common.{◌≡◌, ℕ, zero, suc, ◌+◌, ◌-◌, ◌/◌, ◌^◌, ◌<◌, ◌≤◌, min, Bool, true, false, cond, ◌&&◌, ◌||◌, List, [], ◌∷◌, length, get_or, Some, None, Option, sym, refl, ap, ◌∙◌, subst, ⊎_elim, add-one, arith, pow_pos}
 use native.Mathlib.Nat.{div-eq_of_lt}
-use Rattle.std.proofs.lemmas.Bool.{cases_eq, eq-eqb, ne_eqb, and_from, and_left, and_right, and_parts, le-leb, lt-leb, both_ways}
-use Rattle.std.proofs.lemmas.List.{get_or-set_same, get_or-set_other}
+use Rattle.std.proofs.lemmas.Bool.{cases_eq, eq-eqb, ne_eqb, and_from, and_left, and_right, and_parts, le-leb, lt-leb}
 use Rattle.policy.specs.declared.rules.Range.{Range}
 use Rattle.policy.specs.declared.rules.Rule.{Rule}
 use Rattle.policy.specs.Fields.{widths}
@@ -10,12 +9,11 @@ use Rattle.policy.specs.Rules.{lies, admits, meets_from, meets, rule_at, first, 
 use Rattle.policy.proofs.Firsts.{either, computed, empty}
 use Rattle.std.specs.Option.{option_map}
 use Rattle.policy.proofs.Meeting.{lies_there}
-use Rattle.diagram.specs.Diagrams.{Header}
 use Rattle.diagram.specs.Masks.{bit, With}
 use Rattle.diagram.proofs.Steady.{header_step}
 use Rattle.compile.specs.declared.lives.Piece.{Piece}
 use Rattle.compile.specs.declared.sets.BitSet.{BitSet}
-use Rattle.compile.specs.Lives.{no_rule, or_here, first_where, takes, code_at, Live, Whole, Covers, Covering, Widened, Cut, Narrowed, Looked}
+use Rattle.compile.specs.Lives.{or_here, first_where, takes, code_at, Live, Whole, Covering, Cut, Narrowed, Looked}
 
 -- tests that agree below n find the same place
 pub where_same : (p q : ℕ → Bool) (n : ℕ) → ((j : ℕ) → j < n → p j ≡ q j) → first_where p n ≡ first_where q n
@@ -166,27 +164,6 @@ where_more p m (suc n) k l e =
 pub where_next : (p : ℕ → Bool) (i : ℕ) → first_where p i ≡ None → (b : Bool) → p i ≡ b → first_where p (i + 1) ≡ cond b (Some i) None
 where_next p i e b h = rw add-one (ap (λ o. or_here o (p i) i) e ∙ ap (λ c. cond c (Some i) None) h)
 
-pub widened : (rule : Rule) (i field after mask more : ℕ) → field < length rule.ranges → (get_or rule.ranges field no_range).low ≡ 0
-    → 2 ^ get_or widths field 0 ≤ (get_or rule.ranges field no_range).high + 1 → true ≡ bit after i → With mask i more → Widened rule i field after mask more
-widened rule i field after mask more lf z top a w j b =
-    ⊎_elim
-    (λ (e : j ≡ i). inr (e, sym a, (λ x l. lies_there rule.ranges field x no_range lf ∙ lies_in (get_or rule.ranges field no_range) x (omega arith) (omega arith))))
-    (λ (e : j ≡ i → ⊥). inl (sym (w j ∙ ap (λ c. c || bit mask j) (ne_eqb i j (λ s. e (sym s)))) ∙ b))
-    (cases_eq j i)
-
-pub covering_none : (rules : List Rule) (field after : ℕ) → Covering rules field after 0 0
-covering_none rules field after i b = absurd (both_ways (bit 0 i) (zero_bit i) b)
-
-pub covering_more : (rules : List Rule) (field after n mask more : ℕ) → Covering rules field after n mask → Widened (rule_at rules n) n field after mask more
-    → Covering rules field after (n + 1) more
-covering_more rules field after n mask more C W i b =
-    ⊎_elim
-    (λ (l : bit mask i ≡ true). let c = C i l in (omega (arith, c.0), c.1, c.2))
-    (λ (l : (i ≡ n) × (bit after n ≡ true) × Covers (rule_at rules n) field).
-    let P : ℕ → Type 0 = λ k. (k < n + 1) × (bit after k ≡ true) × Covers (rule_at rules k) field in
-    subst P (sym l.0) (omega arith, l.1, l.2))
-    (W i b)
-
 pub whole_all : (rules : List Rule) (field after mask : ℕ) → field < 5 → Whole rules (field + 1) after → Covering rules field after (length rules) mask → Whole rules field mask
 whole_all rules field after mask lf W C i l b h H =
     let c = C i b in
@@ -208,29 +185,6 @@ decide_first (r ∷ rules) h = go (meets r h) (first rules h) (decide_first rule
     go : (b : Bool) (o : Option ℕ) → decide rules h ≡ option_map (code_at rules) o → cond b (Some r.code) (decide rules h) ≡ option_map (code_at (r ∷ rules)) (cond b (Some 0) (one_later o))
     go true o e = refl
     go false o e = e ∙ later o
-
--- after the last field nothing is left to take
-pub whole_none : (rules : List Rule) (f mask : ℕ) → 5 ≤ f → f ≤ 5 → Whole rules f mask
-whole_none rules f mask l m i li b h H =
-    let e : f ≡ 5 = omega arith in
-    let P : ℕ → Type 0 = λ n. Header (drop n widths) h in
-    last (subst P e H)
-  where
-    last : Header [] h → meets_from (rule_at rules i) f h ≡ true
-    last = empty h
-      where
-        empty : (h : List ℕ) → Header [] h → meets_from (rule_at rules i) f h ≡ true
-        empty [] H = refl
-        empty (x ∷ h) H = absurd H.0
-
-pub whole_set : (rules : List Rule) (sets : List BitSet) (field : ℕ) (new : BitSet) → field < length sets → Whole rules field new.bits
-    → ((f : ℕ) → field + 1 ≤ f → f ≤ 5 → Whole rules f (get_or sets f no_rule).bits) → (f : ℕ) → field ≤ f → f ≤ 5 → Whole rules f (get_or (set sets field new) f no_rule).bits
-whole_set rules sets field new l W old f a b =
-    ⊎_elim
-    (λ (e : f ≡ field). let P : ℕ → Type 0 = λ n. Whole rules n (get_or (set sets field new) n no_rule).bits in
-    subst P (sym e) (subst (λ (z : BitSet). Whole rules field z.bits) (sym (get_or-set_same sets field new no_rule l)) W))
-    (λ (e : f ≡ field → ⊥). subst (λ (z : BitSet). Whole rules f z.bits) (sym (get_or-set_other sets field f new no_rule e)) (old f (omega arith) b))
-    (cases_eq f field)
 
 -- at the start all rules are live
 abbrev all_bits : ℕ → ℕ → Bool
