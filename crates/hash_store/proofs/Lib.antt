@@ -2,3 +2,4 @@ pub mod Around
 pub mod Rounds
 pub mod Probes
 pub mod Moves
+pub mod Cuts

@@ -1,11 +1,11 @@
 -- What the hash store holds: its rows are those of the used cells.
-use Rattle.std.specs.Prelude.{min, List, Option, length, drop, ℕ}
+use Rattle.std.specs.Prelude.{ℕ, ◌^◌, ◌<◌, min, List, Option, length, drop}
 use Rattle.std.proofs.Common.{arith}
 use Rattle.std.specs.Borrow.{GName}
 use Rattle.store.specs.declared.row.Row.{Row}
 use Rattle.store.specs.Meaning.{Contents, Lawful}
 use Rattle.hash_store.specs.declared.hash.HashStore.{HashStore}
-use Rattle.hash_store.specs.Cells.{cell_at, rows_of}
+use Rattle.hash_store.specs.Cells.{cell_at, rows_of, Unpassed, Sound}
 use Rattle.hash_store.specs.Helds.{rows_within, rows_apart}
 
 -- How many of the cells may hold rows.
@@ -17,6 +17,12 @@ hash_rows s = rows_of (cell_at s.cells.now) (usable_cells s)
 
 abbrev pub hash_contents : HashStore → Contents
 hash_contents s = record { rows = hash_rows s; capacity = usable_cells s; tally = s.tally }
+
+-- A store in order: its cells are, one that no row stands beyond can be told, and the tally has 64 bits.
+pub record InOrder (s : HashStore) : Type 0 where
+  pub cells : Sound (cell_at s.cells.now) (usable_cells s) s.count
+  pub cut : 0 < usable_cells s → (z : ℕ) × (z < usable_cells s) × Unpassed (cell_at s.cells.now) (usable_cells s) z
+  pub counts : s.tally < 2 ^ 64
 
 pub hash_lawful : (s : HashStore) → Lawful (hash_contents s)
 hash_lawful s =

@@ -25,7 +25,7 @@ pub struct HashStore<'a> {
 }
 
 impl<'a> HashStore<'a> {
-    ghost use Rattle.hash_store.specs.Hashes.{usable_cells, hash_rows, hash_contents};
+    ghost use Rattle.hash_store.specs.Hashes.{usable_cells, hash_rows, hash_contents, InOrder};
 
     // An empty store with room for as many rows as there are cells, 4,096 at most. The cells that it
     // uses are made free, and those past the first 4,096 are not used.
@@ -33,6 +33,7 @@ impl<'a> HashStore<'a> {
         ensures lent { result.cells.ghost_name ≡ cells.entry.ghost_name }
         ensures long { length result.cells.now ≡ length cells.old }
         ensures beyond { drop 4096 result.cells.now ≡ drop 4096 cells.old }
+        ensures order { InOrder result }
         ensures contents { hash_contents result ≡ record { rows = []; capacity = min (length cells.old) 4096; tally = 0 } }
     {
         let used = cells.len().min(MOST_ROWS);

@@ -3,6 +3,7 @@ use Rattle.std.proofs.lemmas.List.{length-take-le}
 use Rattle.std.proofs.lemmas.Slice.{drop-append-drop}
 use Rattle.store.specs.declared.row.Row.{Row}
 use Rattle.hash_store.proofs.Probes.{sound_none, cleared}
+use Rattle.hash_store.proofs.Cuts.{in_order}
 use Rattle.hash_store.proofs.hash.HashStore.new.Goals as goal
 
 pub invariant_of-result : goal.invariant_of-result
@@ -19,3 +20,6 @@ pub returns-clause-beyond : goal.returns-clause-beyond
 returns-clause-beyond c =
     let cs = c.args.cells.now in
     drop-append-drop c.min-used.result cs c.fill.new.self 4096 (omega arith) (c.fill.ensures.len ∙ length-take-le c.min-used.result cs (omega arith))
+
+pub returns-clause-order : goal.returns-clause-order
+returns-clause-order c = in_order _
