@@ -1,6 +1,10 @@
 -- The first place at which a test holds, and the live rules of a run of values.
-use Rattle.std.proofs.Common.{◌≡◌, ℕ, zero, suc, ◌+◌, ◌-◌, ◌/◌, ◌^◌, ◌<◌, ◌≤◌, min, Bool, true, false, cond, ◌&&◌, ◌||◌, List, [], ◌∷◌, length, get_or, Some, None, Option, sym, refl, ap, ◌∙◌, subst, ⊎_elim, add-one, arith, pow_pos}
+use Rattle.std.proofs.Common.{◌≡◌, ℕ, zero, suc, ◌+◌, ◌-◌, ◌/◌, ◌%◌, ◌^◌, ◌<◌, ◌≤◌, min, Bool, true, false, cond, ◌&&◌, ◌||◌, List, [], ◌∷◌, length, get_or, Some, None, Option, sym, refl, ap, ◌∙◌, subst, ⊎_elim, add-one, arith, pow_pos}
 use native.Mathlib.Nat.{div-eq_of_lt}
+use Rattle.std.specs.Int.{trailing_zeros}
+use Rattle.std.specs.Int.Count.{trailing_of_zero}
+use Rattle.std.specs.Int.Width.{w64}
+use Rattle.std.proofs.lemmas.Nat.Bits.{bit_at-trailing_zeros}
 use Rattle.std.proofs.lemmas.Bool.{cases_eq, eq-eqb, ne_eqb, and_from, and_left, and_right, and_parts, le-leb, lt-leb}
 use Rattle.policy.specs.declared.rules.Range.{Range}
 use Rattle.policy.specs.declared.rules.Rule.{Rule}
@@ -151,6 +155,23 @@ module _ (rule : Rule) (i live field low : ℕ) (piece : Piece) (lf : field < le
 
 pub zero_bit : (j : ℕ) → bit 0 j ≡ false
 zero_bit j = let e : 0 / 2 ^ j ≡ 0 = div-eq_of_lt (pow_pos j) in rw e refl
+
+-- the number of zeros at the end of a number of 64 bits is the place of its first 1
+pub least_before : (m : ℕ) → m < 2 ^ 64 → (n : ℕ) → n < trailing_zeros w64 m → bit m n ≡ false
+least_before m fits n l =
+    ⊎_elim
+    (λ (z : m ≡ 0). let P : ℕ → Type 0 = λ k. bit k n ≡ false in subst P (sym z) (zero_bit n))
+    (λ (p : m ≡ 0 → ⊥).
+    let t = (bit_at-trailing_zeros w64 m (omega (arith, p)) fits).2 n l in
+    ne_eqb (m / 2 ^ n % 2) 1 (λ e. omega (arith, t, e)))
+    (cases_eq m 0)
+
+pub least_is : (m : ℕ) → m < 2 ^ 64 → trailing_zeros w64 m < 64 → bit m (trailing_zeros w64 m) ≡ true
+least_is m fits l =
+    ⊎_elim
+    (λ (z : m ≡ 0). let P : ℕ → Type 0 = λ k. trailing_zeros w64 k < 64 in absurd (omega (arith, subst P z l, trailing_of_zero 64)))
+    (λ (p : m ≡ 0 → ⊥). eq-eqb (m / 2 ^ trailing_zeros w64 m % 2) 1 (bit_at-trailing_zeros w64 m (omega (arith, p)) fits).1)
+    (cases_eq m 0)
 
 -- a place that was found stays
 pub where_more : (p : ℕ → Bool) (m n k : ℕ) → m ≤ n → first_where p m ≡ Some k → first_where p n ≡ Some k

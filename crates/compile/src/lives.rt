@@ -137,12 +137,12 @@ impl<'a> Lives<'a> {
         ensures value { result ≡ first_live_rule self.now.rules.now live.bits 5 [] }
         ensures within { IfSome result (λ i. i < length self.now.rules.now) }
     {
-        for i in 0..self.rules.len() {
-            if live.has(i) {
-                return Some(i);
-            }
+        let first = live.least();
+        if first < self.rules.len() {
+            Some(first)
+        } else {
+            None
         }
-        None
     }
 
     // The code of the first live rule.

@@ -1,5 +1,5 @@
 // Sets of numbers from 0 to 63.
-ghost use Rattle.std.specs.Prelude.{◌≡◌, ◌<◌};
+ghost use Rattle.std.specs.Prelude.{◌≡◌, ℕ, ◌<◌, true, false};
 ghost use Rattle.diagram.specs.Masks.{bit, With};
 
 // A set of numbers from 0 to 63, as the bits of a number.
@@ -19,6 +19,14 @@ impl BitSet {
         ensures { result ≡ bit self.bits n }
     {
         self.bits >> n & 1 == 1
+    }
+
+    // The least number of the set, 64 where there is none.
+    pub(crate) fn least(self) -> usize
+        ensures before { (n : ℕ) → n < result → bit self.bits n ≡ false }
+        ensures is { result < 64 → bit self.bits result ≡ true }
+    {
+        self.bits.trailing_zeros() as usize
     }
 
     // The set with one more number.

@@ -1,15 +1,19 @@
-use Rattle.std.proofs.Common.{◌≡◌, ◌+◌, true, [], length, sym, refl, arith}
+use Rattle.std.proofs.Common.{◌≡◌, ℕ, ◌<◌, ◌&&◌, true, false, [], length, sym, refl, ap, arith}
 use Rattle.std.proofs.lemmas.Bool.{and_from}
 use Rattle.diagram.specs.Masks.{bit}
 use Rattle.compile.specs.Lives.{takes}
-use Rattle.compile.proofs.Living.{where_more, where_next}
+use Rattle.compile.proofs.Living.{where_none, where_hit}
 use Rattle.compile.proofs.lives.Lives.first.Goals as goal
 
-pub returns-then-has : goal.returns-then-has
-returns-then-has c =
-    let t : takes c.args.self.now.rules.now c.args.live.bits 5 [] c.loop-i.i ≡ true = and_from (bit c.args.live.bits c.loop-i.i) true (sym c.if-has.ensures) refl in
-    record {
-      value = sym (where_more (takes c.args.self.now.rules.now c.args.live.bits 5 []) (c.loop-i.i + 1) (length c.args.self.now.rules.now) c.loop-i.i (omega arith)
-          (where_next (takes c.args.self.now.rules.now c.args.live.bits 5 []) c.loop-i.i c.loop-i.invariant true t));
-      within = c.loop-i-test.true;
-    }
+pub returns-then-first-self-clause-value : goal.returns-then-first-self-clause-value
+returns-then-first-self-clause-value c =
+    let lives = c.args.self.now in
+    let k = c.least-first.result in
+    let least = c.least-first.ensures in
+    let here : takes lives.rules.now c.args.live.bits 5 [] k ≡ true = and_from (bit c.args.live.bits k) true (least.is (omega (arith, lives.few))) refl in
+    sym (where_hit (takes lives.rules.now c.args.live.bits 5 []) (length lives.rules.now) k (omega arith) here (λ j l. ap (λ b. b && true) (least.before j l)))
+
+pub returns-else-first-self-clause-value : goal.returns-else-first-self-clause-value
+returns-else-first-self-clause-value c =
+    let lives = c.args.self.now in
+    sym (where_none (takes lives.rules.now c.args.live.bits 5 []) (length lives.rules.now) (λ j l. ap (λ b. b && true) (c.least-first.ensures.before j (omega arith))))
