@@ -1,16 +1,22 @@
 -- The rows of a level's tables, node by node, and of all levels.
-use Rattle.std.proofs.Common.{◌≡◌, ℕ, ◌+◌, ◌<◌, ◌≤◌, ◌≢◌, List, [], ◌∷◌, ◌++◌, length, get_or, drop, set, sym, refl, ap, ◌∙◌, subst, ⊎_elim, append_assoc, arith, length-append}
-use Rattle.std.proofs.lemmas.List.{length-map, map-set, get_or-map, drop_more, get_or-set_same, get_or-set_other}
+use Rattle.std.proofs.Common.{◌≡◌, ℕ, ◌+◌, ◌<◌, ◌≤◌, ◌≢◌, List, [], ◌∷◌, ◌++◌, length, get_or, drop, set, replicate, sym, refl, ap, ◌∙◌, subst, ⊎_elim, append_assoc, arith, length-append}
+use Rattle.std.proofs.lemmas.List.{length-map, length-replicate, length-take-le, map-set, get_or-map, drop_more, get_or-set_same, get_or-set_other}
 use Rattle.std.proofs.lemmas.Bool.{cases_eq}
 use Rattle.store.specs.declared.row.Row.{Row}
 use Rattle.policy.specs.Fields.{widths}
 use Rattle.diagram.specs.Diagrams.{Node, Diagram}
 use Rattle.diagram.specs.Keys.{key}
+use Rattle.diagram.specs.Masks.{bit}
+use Rattle.chain.specs.Tables.{occurs, table}
 use Rattle.diagram.specs.Chains.{rows_of_edge, rows_of_level, rows_from, chain}
 use Rattle.compile.specs.declared.levels.Level.{Level}
+use Rattle.compile.specs.declared.levels.Slot.{Slot}
 use Rattle.compile.specs.Nodes.{node_of}
 use Rattle.compile.specs.Levels.{nodes_of, diagram_of}
 use Rattle.compile.specs.Writing.{Measured}
+use Rattle.compile.proofs.Filling.{no_edge}
+use Rattle.compile.proofs.Slots.{no_slot}
+use Rattle.compile.specs.Vectors.{items}
 
 -- rows that follow others, and no room for them
 pub part_more : (before after later part left all : List Row) → after ++ (part ++ left) ≡ before ++ all → later ≡ after ++ part → later ++ left ≡ before ++ all
@@ -29,9 +35,24 @@ module _ (before after : List Row) (side w level k : ℕ) (nodes : List Node) (l
   pub level_open : after ++ (rows_of_edge (key side level k) w 0 (get_or nodes k []) ++ rows_of_level side w level (k + 1) (drop (k + 1) nodes)) ≡ before ++ rows_of_level side w level 0 nodes
   level_open = ap (λ (z : List Node). after ++ rows_of_level side w level k z) (sym (drop_more nodes k [] l)) ∙ F
 
+-- the lengths of one node more
+pub measured_more : (masks : List ℕ) (w k mask : ℕ) (nodes : List Node) → k < length masks → Measured masks w nodes k
+    → ((n : ℕ) → bit mask n ≡ occurs (table w (get_or nodes k [])) n) → Measured (set masks k mask) w nodes (k + 1)
+measured_more masks w k mask nodes l M h j lj n =
+    ⊎_elim
+    (λ (e : j ≡ k). let P : ℕ → Type 0 = λ i. bit (get_or (set masks k mask) i 0) n ≡ occurs (table w (get_or nodes i [])) n in
+    subst P (sym e) (ap (λ m. bit m n) (get_or-set_same masks k mask 0 l) ∙ h n))
+    (λ (e : j ≢ k). ap (λ m. bit m n) (get_or-set_other masks k j mask 0 e) ∙ M j (omega arith) n)
+    (cases_eq j k)
+
 -- a level without nodes
 abbrev pub no_level : Level
-no_level = record { edges = record { items = [] }; slots = record { items = [] }; few = omega arith; within = λ k s l. absurd (omega arith); sum = refl }
+no_level = record {
+  edges = record { cells = replicate 1024 no_edge; len = 0; fits = omega arith; full = length-replicate 1024 no_edge };
+  slots = record { cells = replicate 256 no_slot; len = 0; fits = omega arith; full = length-replicate 256 no_slot };
+  within = λ (k : ℕ) (s : Slot) (l : k < 0). absurd (omega (arith, l));
+  sum = refl;
+}
 
 -- one level of a chain
 module _ (Ls : List Level) (len : length Ls ≡ 5) (field : ℕ) (lf : field < 5) where
@@ -41,7 +62,8 @@ module _ (Ls : List Level) (len : length Ls ≡ 5) (field : ℕ) (lf : field < 5
   pub few_nodes : length (get_or (diagram_of Ls) field []) ≤ 256
   few_nodes =
       let L : Level = get_or Ls field no_level in
-      omega (arith, L.few, length-map L.slots.items (node_of L.edges.items), ap length (level_is no_level))
+      let few = length-take-le L.slots.len L.slots.cells (omega (arith, L.slots.fits, L.slots.full)) in
+      omega (arith, few, L.slots.fits, length-map (items L.slots) (node_of (items L.edges)), ap length (level_is no_level))
 
   pub chain_open : (out : List Row) (side : ℕ)
       → out ++ rows_from side (drop field widths) (1 + field) (drop field (diagram_of Ls)) ≡ chain side widths (diagram_of Ls)

@@ -79,7 +79,7 @@ pub reopened : (xs ys : List Edge) (last : Edge) (hi t : ℕ) → last.to ≡ t 
 reopened xs ys last hi t e is =
     ap (λ u. ys ++ record { high = hi; to = u } ∷ []) (sym e) ∙ sym (added_same ys last hi t e) ∙ ap (λ (z : List Edge). added z hi t) (sym is)
 
-last_split : (xs : List Edge) (last : Edge) → slice_get xs (length xs - 1) ≡ Some last → xs ≡ take (length xs - 1) xs ++ last ∷ []
+pub last_split : (xs : List Edge) (last : Edge) → slice_get xs (length xs - 1) ≡ Some last → xs ≡ take (length xs - 1) xs ++ last ∷ []
 last_split xs last e =
     let l = slice_get_within xs (length xs - 1) last e in
     let g : get_or xs (length xs - 1) last ≡ last

@@ -12,6 +12,7 @@ use Rattle.compile.specs.declared.places.Place.{Place}
 use Rattle.compile.specs.Gaps.{LeastOfAll, Never}
 use Rattle.compile.specs.Places.{diagram_in, Fitting}
 use Rattle.compile.specs.Writing.{Chained}
+use Rattle.compile.specs.Vectors.{items}
 
 -- The number of each refusal.
 abbrev pub compile_number : CompileRefusal → ℕ
@@ -32,8 +33,8 @@ compile_asks coded rules = list_asks coded rules (ask 10 (Never rules None) (ask
 pub record Made (rules : List Rule) (side : ℕ) (place : Place) (rows : ℕ) : Type 0 where
   pub reduced : Reduced widths (decide rules) (diagram_in place)
   pub fits : Fitting (diagram_in place)
-  pub chained : Chained place.rows.items place.lengths (side % 4) (diagram_in place)
-  pub count : rows ≡ length place.rows.items
+  pub chained : Chained (items place.rows) place.lengths (side % 4) (diagram_in place)
+  pub count : rows ≡ length (items place.rows)
 
 -- A refusal names the first rule that is not good, or the least header that meets no rule.
 abbrev pub CompileNames : (ℕ → Type 0) → List Rule → CompileRefusal → Type 0

@@ -5,10 +5,11 @@ use Rattle.diagram.specs.Diagrams.{Node, Diagram, Runs}
 use Rattle.diagram.specs.States.{total}
 use Rattle.compile.specs.declared.levels.Level.{Level}
 use Rattle.compile.specs.Nodes.{nodes_in}
+use Rattle.compile.specs.Vectors.{items}
 
 -- The nodes of a level, and the diagram of all levels.
 abbrev pub nodes_of : Level → List Node
-nodes_of L = nodes_in L.edges.items L.slots.items
+nodes_of L = nodes_in (items L.edges) (items L.slots)
 
 abbrev pub diagram_of : List Level → Diagram
 diagram_of Ls = map nodes_of Ls

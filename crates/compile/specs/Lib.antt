@@ -1,4 +1,5 @@
 pub mod Lives
+pub mod Vectors
 pub mod Nodes
 pub mod Levels
 pub mod Builds

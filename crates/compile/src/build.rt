@@ -49,7 +49,7 @@ fn build(
         add_run(&mut draft, piece.end, to)?;
         low = piece.end as u64 + 1;
     }
-    let node = levels[rest.field].share(&draft)?;
+    let node = levels[rest.field].share(draft.as_slice())?;
     remember(known, Known { rest, node });
     Some(node)
 }

@@ -4,6 +4,7 @@ ghost use Rattle.policy.specs.Fields.{widths};
 ghost use Rattle.diagram.specs.Chains.{rows_of_level, chain};
 ghost use Rattle.compile.specs.Levels.{nodes_of, diagram_of, AllRuns, EachRuns};
 ghost use Rattle.compile.specs.Writing.{Levelled, Chained};
+ghost use Rattle.compile.specs.Vectors.{items};
 
 use crate::levels::{Level, MAX_NODES};
 use crate::rows::{Lengths, Rows, Table};
@@ -19,7 +20,7 @@ impl Level {
         lengths: &mut [u64; MAX_NODES],
     ) -> Option<()>
         requires { AllRuns first.width (nodes_of self.now) }
-        ensures { MatchOption result (1024 < length rows.old.items + length (rows_of_level first.side first.width first.level 0 (nodes_of self.now))) (λ _. Levelled rows.old.items rows.new.items lengths.new first.side first.width first.level (nodes_of self.now)) }
+        ensures { MatchOption result (1024 < length (items rows.old) + length (rows_of_level first.side first.width first.level 0 (nodes_of self.now))) (λ _. Levelled (items rows.old) (items rows.new) lengths.new first.side first.width first.level (nodes_of self.now)) }
     {
         for node in 0..self.len() {
             let table = Table {
@@ -44,7 +45,7 @@ pub(crate) fn chain_rows(
 ) -> Option<()>
     requires side { side < 4 }
     requires runs { EachRuns (diagram_of levels.now) }
-    ensures { MatchOption result (1024 < length (chain side widths (diagram_of levels.now))) (λ _. Chained rows.new.items lengths.new side (diagram_of levels.now)) }
+    ensures { MatchOption result (1024 < length (chain side widths (diagram_of levels.now))) (λ _. Chained (items rows.new) lengths.new side (diagram_of levels.now)) }
 {
     rows.clear();
     for (field, level) in levels.iter().enumerate() {

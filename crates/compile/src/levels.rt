@@ -3,8 +3,9 @@ ghost use Rattle.std.specs.Prelude.{◌≡◌, ◌<◌, ◌≤◌, ◌≢◌, �
 ghost use Rattle.diagram.specs.Drafts.{added};
 ghost use Rattle.diagram.specs.States.{total};
 ghost use Rattle.compile.specs.Nodes.{nodes_in, Within};
+ghost use Rattle.compile.specs.Vectors.{items};
 
-use arrayvec::ArrayVec;
+use crate::vectors::FixedVec;
 use diagram::edges::Edge;
 
 // The most nodes of a level, and the most edges of all its nodes.
@@ -20,36 +21,35 @@ pub struct Slot {
 }
 
 // The edges of a node in the making.
-pub type Draft = ArrayVec<Edge, MAX_EDGES>;
+pub type Draft = FixedVec<Edge, MAX_EDGES>;
 
 // Takes the last edge away where it leads to this place, so that a further one may stand for both.
 fn reopen(draft: &mut Draft, to: u16)
-    ensures { (high : ℕ) → draft.new.items ++ record { high = high; to = to } ∷ [] ≡ added draft.old.items high to }
+    ensures { (high : ℕ) → items draft.new ++ record { high = high; to = to } ∷ [] ≡ added (items draft.old) high to }
 {
-    if let Some(last) = draft.last() {
+    if let Some(last) = draft.as_slice().last() {
         if last.to == to {
-            draft.pop();
+            draft.shorten();
         }
     }
 }
 
 // Adds a run, or lengthens the last one where it leads to the same place; none, where there is no room.
 pub(crate) fn add_run(draft: &mut Draft, high: u32, to: u16) -> Option<()>
-    ensures { MatchOption result (1024 < length (added draft.old.items high to)) (λ _. draft.new.items ≡ added draft.old.items high to) }
+    ensures { MatchOption result (1024 < length (added (items draft.old) high to)) (λ _. items draft.new ≡ added (items draft.old) high to) }
 {
     reopen(draft, to);
-    draft.try_push(Edge { high, to }).ok()
+    draft.try_push(Edge { high, to })
 }
 
 // The nodes of one level. Their edges stand one after another, a slot for each node: a level has its
 // memory from the start, so that no node has a vector of its own.
-#[derive(Drop)]
+#[derive(Clone, Copy)]
 pub struct Level {
-    edges: ArrayVec<Edge, MAX_EDGES>,
-    slots: ArrayVec<Slot, MAX_NODES>,
-    ghost few: { length slots.items ≤ 256 },
-    ghost within: { Within edges.items slots.items },
-    ghost sum: { length edges.items ≡ total (nodes_in edges.items slots.items) },
+    pub edges: FixedVec<Edge, MAX_EDGES>,
+    pub slots: FixedVec<Slot, MAX_NODES>,
+    ghost within: { Within (items edges) (items slots) },
+    ghost sum: { length (items edges) ≡ total (nodes_in (items edges) (items slots)) },
 }
 
 impl Level {
@@ -60,9 +60,17 @@ impl Level {
         ensures { nodes_of result ≡ [] }
     {
         Level {
-            edges: ArrayVec::new(),
-            slots: ArrayVec::new(),
+            edges: FixedVec::new(),
+            slots: FixedVec::new(),
         }
+    }
+
+    // Takes all nodes away.
+    pub(crate) fn clear(&mut self)
+        ensures { nodes_of self.new ≡ [] }
+    {
+        self.edges.clear();
+        self.slots.clear();
     }
 
     // How many nodes there are.
@@ -78,8 +86,8 @@ impl Level {
         requires { node < length (nodes_of self.now) }
         ensures { result.now ≡ slice_index_or (nodes_of self.now) node [] }
     {
-        let slot = self.slots[node];
-        &self.edges[slot.start..slot.start + slot.count]
+        let slot = self.slots.as_slice()[node];
+        &self.edges.as_slice()[slot.start..slot.start + slot.count]
     }
 
     // The number of the node with these edges. (Nodes go by number, here and where rows are written: their
@@ -99,12 +107,12 @@ impl Level {
     fn append(&mut self, edges: &[Edge]) -> Option<u16>
         ensures { MatchOption result (Crowded self.old edges.now) (λ k. (nodes_of self.new ≡ nodes_of self.old ++ edges.now ∷ []) × (k ≡ length (nodes_of self.old))) }
     {
-        if self.slots.is_full() {
+        if self.slots.len() >= MAX_NODES {
             return None;
         }
         let node = self.len() as u16;
         let start = self.edges.len();
-        self.edges.try_extend_from_slice(edges).ok()?;
+        self.edges.try_extend_from_slice(edges)?;
         self.slots.push(Slot {
             start,
             count: edges.len(),

@@ -14,3 +14,4 @@ pub mod refusals;
 pub mod rows;
 pub mod sets;
 pub mod tables;
+pub mod vectors;

@@ -14,7 +14,7 @@ pub(crate) fn clear_levels(levels: &mut [Level; FIELDS])
     ensures bare { AllBare levels.new }
 {
     for level in levels.iter_mut() {
-        *level = Level::new();
+        level.clear();
     }
 }
 
@@ -22,7 +22,7 @@ pub(crate) fn clear_levels(levels: &mut [Level; FIELDS])
 const MEMORY: usize = 4096;
 
 // Where the diagram of a list is made, with the rows of its chain.
-#[derive(Drop)]
+#[derive(Clone, Copy)]
 pub struct Place {
     pub(crate) levels: [Level; FIELDS],
     pub(crate) rows: Rows,
@@ -36,13 +36,7 @@ impl Place {
         ensures { Bare result }
     {
         Place {
-            levels: [
-                Level::new(),
-                Level::new(),
-                Level::new(),
-                Level::new(),
-                Level::new(),
-            ],
+            levels: [Level::new(); FIELDS],
             rows: Rows::new(),
             lengths: [[0; MAX_NODES]; FIELDS],
             known: [None; MEMORY],

@@ -6,14 +6,14 @@ ghost use Rattle.diagram.specs.Diagrams.{Runs};
 use crate::blocks::{Block, next_block};
 use crate::levels::MAX_NODES;
 use crate::sets::BitSet;
-use arrayvec::ArrayVec;
+use crate::vectors::FixedVec;
 use chain::probe::block_key;
 use diagram::edges::Edge;
 use policy::fields::FIELDS;
 use store::row::{CHAIN_ROWS, Row};
 
 // The rows of a chain in the making.
-pub type Rows = ArrayVec<Row, CHAIN_ROWS>;
+pub type Rows = FixedVec<Row, CHAIN_ROWS>;
 
 // For each node of each level, which block lengths occur in its table, as the bits of a number.
 pub type Lengths = [[u64; MAX_NODES]; FIELDS];
@@ -35,6 +35,7 @@ impl Table {
     ghost use Rattle.diagram.specs.Chains.{rows_of_edge};
     ghost use Rattle.chain.specs.Tables.{table as tiles_in};
     ghost use Rattle.compile.specs.Writing.{key_in, rows_of, tiles_of, Extends};
+    ghost use Rattle.compile.specs.Vectors.{items};
 
     // The key of a block in the table.
     fn key(&self, block: Block) -> u64
@@ -54,7 +55,7 @@ impl Table {
     // where there is no room.
     fn edge_rows(&self, low: u32, edge: Edge, rows: &mut Rows, lengths: BitSet) -> Option<BitSet>
         requires { edge.high < 2 ^ self.now.width }
-        ensures { MatchOption result (1024 < length rows.old.items + length (cover self.now.width low edge.high)) (λ more. Extends rows.old.items rows.new.items lengths.bits more.bits (rows_of self.now edge.to (cover self.now.width low edge.high)) (tiles_of edge.to (cover self.now.width low edge.high))) }
+        ensures { MatchOption result (1024 < length (items rows.old) + length (cover self.now.width low edge.high)) (λ more. Extends (items rows.old) (items rows.new) lengths.bits more.bits (rows_of self.now edge.to (cover self.now.width low edge.high)) (tiles_of edge.to (cover self.now.width low edge.high))) }
     {
         let mut lengths = lengths;
         let mut next = low as u64;
@@ -65,7 +66,7 @@ impl Table {
                 key: self.key(block),
                 result: edge.to,
             };
-            rows.try_push(row).ok()?;
+            rows.try_push(row)?;
             lengths = lengths.with(block.length as usize);
             next = block.last as u64 + 1;
         }
@@ -75,7 +76,7 @@ impl Table {
     // Writes the rows of a node, and tells which block lengths occur in them; none, where there is no room.
     pub(crate) fn node_rows(&self, edges: &[Edge], rows: &mut Rows) -> Option<BitSet>
         requires { Runs (2 ^ self.now.width - 1) 0 edges.now }
-        ensures { MatchOption result (1024 < length rows.old.items + length (rows_of_edge (key_in self.now) self.now.width 0 edges.now)) (λ more. Extends rows.old.items rows.new.items 0 more.bits (rows_of_edge (key_in self.now) self.now.width 0 edges.now) (tiles_in self.now.width edges.now)) }
+        ensures { MatchOption result (1024 < length (items rows.old) + length (rows_of_edge (key_in self.now) self.now.width 0 edges.now)) (λ more. Extends (items rows.old) (items rows.new) 0 more.bits (rows_of_edge (key_in self.now) self.now.width 0 edges.now) (tiles_in self.now.width edges.now)) }
     {
         let mut lengths = BitSet::EMPTY;
         let mut low = 0u64;

@@ -1,6 +1,7 @@
 // The tables of a chain, as a card keeps them.
 ghost use Rattle.std.specs.Prelude.{◌≡◌, ◌++◌, length, drop, replicate};
 ghost use Rattle.store.specs.Rows.{blank};
+ghost use Rattle.compile.specs.Vectors.{items};
 
 use crate::levels::MAX_NODES;
 use crate::places::Place;
@@ -25,11 +26,11 @@ pub const NO_TABLES: Tables = Tables {
 impl Place {
     // The tables of the list that was compiled here; after its rows stand rows of zeros.
     pub fn tables(&self) -> Tables
-        ensures rows { result.rows ≡ self.now.rows.items ++ drop (length self.now.rows.items) (replicate 1024 blank) }
+        ensures rows { result.rows ≡ items self.now.rows ++ drop (length (items self.now.rows)) (replicate 1024 blank) }
         ensures lengths { result.lengths ≡ self.now.lengths }
     {
         let mut rows = NO_TABLES.rows;
-        rows[..self.rows.len()].copy_from_slice(&self.rows);
+        rows[..self.rows.len()].copy_from_slice(self.rows.as_slice());
         Tables {
             rows,
             lengths: self.lengths,

@@ -6,6 +6,7 @@ use Rattle.compile.specs.declared.caches.Known.{Known}
 use Rattle.compile.specs.Levels.{Shared, Refused}
 use Rattle.compile.specs.Builds.{Finished}
 use Rattle.compile.proofs.Turns.{Turn, turn_five, turn_start, turn_ready, turn_step, turn_end, leaf_end, wide_end, crowded_end, recall_end, remember_end}
+use Rattle.compile.specs.Vectors.{items}
 use Rattle.compile.proofs.build.+build.Goals as goal
 
 pub returns-then-rest-eq-FIELDS : goal.returns-then-rest-eq-FIELDS
@@ -29,7 +30,7 @@ build-requires t c = (
   omega arith,
   turn_ready c.args.lives.now.rules.now c.args.header c.args.rest.live.bits c.args.rest.field c.args.levels.now c.args.known.now c.requires
       c.args.levels.now c.loop-low.levels c.loop-low.known c.loop-low.low c.top_of-top.result c.cut-piece.result
-      c.loop-low.draft.items (omega (arith, c.requires.most)) c.loop-low.invariant.1 c.top_of-top.ensures c.cut-piece.ensures,
+      (items c.loop-low.draft) (omega (arith, c.requires.most)) c.loop-low.invariant.1 c.top_of-top.ensures c.cut-piece.ensures,
 )
 
 pub loop-low-preserved : goal.loop-low-preserved
@@ -39,7 +40,7 @@ loop-low-preserved t c = (
       (sym c.in_ok-add_run.ensures)
       (turn_step c.args.lives.now.rules.now c.args.header c.args.rest.live.bits c.args.rest.field c.args.levels.now c.args.known.now c.requires
       c.args.levels.now c.loop-low.levels c.loop-low.known c.loop-low.low c.top_of-top.result c.cut-piece.result
-      c.loop-low.draft.items (omega (arith, c.requires.most)) c.loop-low.invariant.1 c.top_of-top.ensures c.cut-piece.ensures
+      (items c.loop-low.draft) (omega (arith, c.requires.most)) c.loop-low.invariant.1 c.top_of-top.ensures c.cut-piece.ensures
       c.build.new.levels c.build.new.known c.in_ok-to.to c.in_ok-to.ensures),
 )
 
@@ -47,11 +48,11 @@ pub returns-in_err-add_run : goal.returns-in_err-add_run
 returns-in_err-add_run t c =
     rw c.from_residual-in_err-add_run.ensures
     (wide_end c.args.lives.now.rules.now c.args.header c.args.rest.field c.args.levels.now c.build.new.levels c.build.new.known c.cut-piece.result.end
-    (added c.loop-low.draft.items c.cut-piece.result.end c.in_ok-to.to)
+    (added (items c.loop-low.draft) c.cut-piece.result.end c.in_ok-to.to)
     c.requires.size (omega (arith, c.requires.most)) c.requires.begins
     (turn_step c.args.lives.now.rules.now c.args.header c.args.rest.live.bits c.args.rest.field c.args.levels.now c.args.known.now c.requires
     c.args.levels.now c.loop-low.levels c.loop-low.known c.loop-low.low c.top_of-top.result c.cut-piece.result
-    c.loop-low.draft.items (omega (arith, c.requires.most)) c.loop-low.invariant.1 c.top_of-top.ensures c.cut-piece.ensures
+    (items c.loop-low.draft) (omega (arith, c.requires.most)) c.loop-low.invariant.1 c.top_of-top.ensures c.cut-piece.ensures
     c.build.new.levels c.build.new.known c.in_ok-to.to c.in_ok-to.ensures)
     (omega (arith, c.top_of-top.ensures, c.cut-piece.ensures.within))
     c.in_err-add_run.ensures)
@@ -60,9 +61,9 @@ pub returns-in_err-node : goal.returns-in_err-node
 returns-in_err-node t c =
     rw c.from_residual-in_err-node.ensures
     (crowded_end c.args.lives.now.rules.now c.args.header c.args.rest.field c.args.levels.now c.loop-low.levels c.loop-low.known c.loop-low.low
-    c.loop-low.draft.items c.index-levels-rest.result c.requires.size (omega (arith, c.requires.most)) (turn_five c.loop-low.invariant.1) c.requires.begins c.loop-low.invariant.1
+    (items c.loop-low.draft) c.index-levels-rest.result c.requires.size (omega (arith, c.requires.most)) (turn_five c.loop-low.invariant.1) c.requires.begins c.loop-low.invariant.1
     (omega (arith, c.top_of-top.ensures))
-    (subst (λ (n : Node). Refused (get_or c.loop-low.levels c.args.rest.field c.index-levels-rest.result) n) c.deref.ensures.0 c.in_err-node.ensures))
+    (subst (λ (n : Node). Refused (get_or c.loop-low.levels c.args.rest.field c.index-levels-rest.result) n) c.as_slice.ensures.value c.in_err-node.ensures))
 
 pub returns : goal.returns
 returns t c =
@@ -73,6 +74,6 @@ returns t c =
     (remember_end c.args.lives.now.rules.now c.args.header c.args.rest c.args.levels.now c.args.known.now c.requires (omega (arith, c.requires.most))
     c.args.levels.now Ms c.loop-low.known c.in_ok-node.node kept.0
     (turn_end c.args.lives.now.rules.now c.args.header c.args.rest.field c.args.levels.now c.loop-low.levels c.loop-low.known c.loop-low.low
-    c.loop-low.draft.items c.index-levels-rest.result c.share.new.self c.in_ok-node.node
+    (items c.loop-low.draft) c.index-levels-rest.result c.share.new.self c.in_ok-node.node
     c.requires.size (omega (arith, c.requires.most)) (turn_five c.loop-low.invariant.1) c.requires.begins c.loop-low.invariant.1 (omega (arith, c.top_of-top.ensures))
-    (subst (λ (n : Node). Shared (get_or c.loop-low.levels c.args.rest.field c.index-levels-rest.result) c.share.new.self n c.in_ok-node.node) c.deref.ensures.0 c.in_ok-node.ensures)))
+    (subst (λ (n : Node). Shared (get_or c.loop-low.levels c.args.rest.field c.index-levels-rest.result) c.share.new.self n c.in_ok-node.node) c.as_slice.ensures.value c.in_ok-node.ensures)))

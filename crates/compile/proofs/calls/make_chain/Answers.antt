@@ -4,6 +4,7 @@ use Rattle.std.proofs.lemmas.List.{length-map}
 use Rattle.compile.specs.Levels.{nodes_of, diagram_of}
 use Rattle.compile.specs.Writing.{Chained}
 use Rattle.compile.proofs.Compiled.{failed_unfit, long_unfit, chained_fits}
+use Rattle.compile.specs.Vectors.{items}
 use Rattle.compile.proofs.calls.make_chain.Goals as goal
 
 pub returns-in_err-reduce : goal.returns-in_err-reduce
@@ -20,7 +21,7 @@ returns c =
     let five : length c.reduce.new.levels ≡ 5 = omega (arith, reduced.levels, length-map c.reduce.new.levels nodes_of) in
     record {
       reduced = reduced;
-      fits = chained_fits c.reduce.new.levels c.chain_rows.new.rows.items c.chain_rows.new.lengths (bit_and c.args.side 3) five (omega (arith, c.len.ensures.value, c.len.ensures.fits)) c.in_ok-chain_rows.ensures;
-      chained = subst (λ s. Chained c.chain_rows.new.rows.items c.chain_rows.new.lengths s (diagram_of c.reduce.new.levels)) (and_mask c.args.side 2) c.in_ok-chain_rows.ensures;
+      fits = chained_fits c.reduce.new.levels (items c.chain_rows.new.rows) c.chain_rows.new.lengths (bit_and c.args.side 3) five (omega (arith, c.len.ensures.value, c.len.ensures.fits)) c.in_ok-chain_rows.ensures;
+      chained = subst (λ s. Chained (items c.chain_rows.new.rows) c.chain_rows.new.lengths s (diagram_of c.reduce.new.levels)) (and_mask c.args.side 2) c.in_ok-chain_rows.ensures;
       count = c.len.ensures.value;
     }

@@ -5,6 +5,6 @@ use Rattle.compile.proofs.places.clear_levels.Goals as goal
 
 pub loop-level-preserved : goal.loop-level-preserved
 loop-level-preserved c = (
-  length-set c.loop-level.levels c.loop-level.level-index c.new.result ∙ c.loop-level.invariant.0,
-  emptied c.loop-level.levels c.loop-level.level-index c.new.result (omega (arith, c.loop-level.invariant.0)) c.new.ensures c.loop-level.invariant.1,
+  length-set c.loop-level.levels c.loop-level.level-index c.clear.new.self ∙ c.loop-level.invariant.0,
+  emptied c.loop-level.levels c.loop-level.level-index c.clear.new.self (omega (arith, c.loop-level.invariant.0)) c.clear.ensures c.loop-level.invariant.1,
 )
