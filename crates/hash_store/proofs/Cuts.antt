@@ -1,5 +1,5 @@
 -- Which cell no row stands beyond: that there is one is known of every store, and it can be found.
-use Rattle.std.proofs.Common.{◌≡◌, ℕ, zero, suc, ◌<◌, ◌≤◌, ◌⊎◌, Bool, true, false, Option, refl, ⊎_elim, inl, inr, arith, subst, sym}
+use Rattle.std.proofs.Common.{◌≡◌, ℕ, zero, suc, ◌<◌, ◌≤◌, ◌⊎◌, Bool, true, false, Option, refl, ⊎_elim, inl, inr, arith, subst}
 use Rattle.std.specs.Prelude.{is_some, min, length}
 use Rattle.std.proofs.Math.Logic.{∥∥₁_elim}
 use Rattle.std.proofs.lemmas.Bool.{cases_eq, false≢true, cases_lt}
@@ -32,9 +32,6 @@ is_true : (b : Bool) → Decided (b ≡ true)
 is_true true = inl refl
 is_true false = inr (λ e. false≢true e)
 
-same : (a b : ℕ) → Decided (a ≡ b)
-same a b = cases_eq a b
-
 -- The row of the cell i stands d on from its home, and its way passes z at the place e.
 record Passes (f : ℕ → Option Row) (m z i d e : ℕ) : Type 0 where
   used : is_some (f i) ≡ true
@@ -52,9 +49,9 @@ module _ (f : ℕ → Option Row) (m : ℕ) where
       ⊎_elim
       (λ (p : at m h e ≡ z). inl (record { used = u; here = l; passed = p }))
       (λ (n : at m h e ≡ z → ⊥). inr (λ w. n w.passed))
-      (same (at m h e) z))
+      (cases_eq (at m h e) z))
       (λ (n : at m h d ≡ i → ⊥). inr (λ w. n w.here))
-      (same (at m h d) i))
+      (cases_eq (at m h d) i))
       (λ (n : is_some (f i) ≡ true → ⊥). inr (λ w. n w.used))
       (is_true (is_some (f i)))
 

@@ -33,7 +33,7 @@ impl<'a> HashStore<'a> {
         ensures lent { result.cells.ghost_name ≡ cells.entry.ghost_name }
         ensures long { length result.cells.now ≡ length cells.old }
         ensures beyond { drop 4096 result.cells.now ≡ drop 4096 cells.old }
-        ensures order { InOrder result }
+        ensures sound { InOrder result }
         ensures contents { hash_contents result ≡ record { rows = []; capacity = min (length cells.old) 4096; tally = 0 } }
     {
         let used = cells.len().min(MOST_ROWS);

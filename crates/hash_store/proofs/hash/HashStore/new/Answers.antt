@@ -21,5 +21,5 @@ returns-clause-beyond c =
     let cs = c.args.cells.now in
     drop-append-drop c.min-used.result cs c.fill.new.self 4096 (omega arith) (c.fill.ensures.len ∙ length-take-le c.min-used.result cs (omega arith))
 
-pub returns-clause-order : goal.returns-clause-order
-returns-clause-order c = in_order _
+pub returns-clause-sound : goal.returns-clause-sound
+returns-clause-sound c = in_order _
