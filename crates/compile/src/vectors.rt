@@ -1,5 +1,5 @@
-// Vectors of a fixed capacity. They lie in the value itself and are copied with it, which the toolchain's
-// `ArrayVec` is not: what that one shows to a contract forgets the places after its items.
+// Vectors of a fixed capacity, which lie in the value itself and are copied with it. (The toolchain's `ArrayVec`
+// is no `Copy`: its model leaves out what stands after the items.)
 ghost use Rattle.std.specs.Prelude.{◌≡◌, ◌≤◌, length};
 
 use std::alloc::AllocError;
@@ -31,7 +31,7 @@ impl<T: Copy + Default, const CAP: usize> FixedVec<T, CAP> {
     ghost use Rattle.compile.specs.Vectors.{items};
 
     // An empty vector.
-    pub(crate) fn new() -> Self
+    pub fn new() -> Self
         ensures { items result ≡ [] }
     {
         FixedVec {
@@ -66,7 +66,7 @@ impl<T: Copy + Default, const CAP: usize> FixedVec<T, CAP> {
     }
 
     // Appends an item; none, with the vector as it was, where there is no room.
-    pub(crate) fn try_push(&mut self, item: T) -> Option<()>
+    pub fn try_push(&mut self, item: T) -> Option<()>
         ensures { MatchOption result ((length (items self.old) ≡ CAP) × (self.new ≡ self.old)) (λ _. items self.new ≡ items self.old ++ item ∷ []) }
     {
         if self.len >= CAP {
