@@ -1,5 +1,5 @@
 // Sets of numbers from 0 to 63.
-ghost use Rattle.std.specs.Prelude.{◌≡◌, ℕ, ◌<◌, true, false};
+ghost use Rattle.std.specs.Prelude.{◌≡◌, ℕ, ◌<◌, ◌≤◌, true, false};
 ghost use Rattle.diagram.specs.Masks.{bit, With};
 
 // A set of numbers from 0 to 63, as the bits of a number.
@@ -25,6 +25,7 @@ impl BitSet {
     pub(crate) fn least(self) -> usize
         ensures before { (n : ℕ) → n < result → bit self.bits n ≡ false }
         ensures is { result < 64 → bit self.bits result ≡ true }
+        ensures most { result ≤ 64 }
     {
         self.bits.trailing_zeros() as usize
     }
