@@ -18,7 +18,7 @@ hash_rows s = rows_of (cell_at s.cells.now) (usable_cells s)
 abbrev pub hash_contents : HashStore → Contents
 hash_contents s = record { rows = hash_rows s; capacity = usable_cells s; tally = s.tally }
 
--- A store in order: its cells are, one that no row stands beyond can be told, and the tally has 64 bits.
+-- A store in order: its cells are in order, a cell is told that no row stands beyond, and the tally has 64 bits.
 pub record InOrder (s : HashStore) : Type 0 where
   pub cells : Sound (cell_at s.cells.now) (usable_cells s) s.count
   pub cut : 0 < usable_cells s → (z : ℕ) × (z < usable_cells s) × Unpassed (cell_at s.cells.now) (usable_cells s) z
